@@ -1,0 +1,37 @@
+-- Laws of widths and of the cleared block. Assumes nothing.
+use Prim.Native.Nat.{ℕ, _+_, _-_, _%_, _≤_}
+use native.Mathlib.Omega.{arith}
+use mathlib.Core.Bool.{Bool, true, false}
+use mathlib.Core.Path.{_≡_, refl}
+use mathlib.Core.List.{List, append-assoc}
+use lib.Dec.{lit≤, leb, eqb}
+use lib.ListN.{length, take, drop, replicate, length-drop}
+use lib.Seq.{sets, length-take-le, drop-drop, sets-eq}
+use borrow.Author.Tests.{leb-true}
+use borrow.Rule.Slice.PartMut.{putMid}
+use Rattle.memory.specs.Access.{pick, bytes, accessOf}
+use Rattle.memory.specs.declared.access.Width.{Width}
+use Rattle.memory.specs.declared.access.Access.{Access}
+
+pub bytes-le : (w : Width) → bytes w ≤ 4
+bytes-le Width.Byte = lit≤ tt
+bytes-le Width.Half = lit≤ tt
+bytes-le Width.Word = lit≤ tt
+
+-- what is served lies inside
+served-cases : (m a n : ℕ) (p q : Bool) → leb (a + n) m ≡ q → pick p (pick q Access.Served Access.Outside) Access.Unaligned ≡ Access.Served → a + n ≤ m
+served-cases m a n true true e h = leb-true (a + n) m e
+served-cases m a n true false e h = let z : _≡_ {A = ℕ} 0 1 = cc in absurd (omega arith)
+served-cases m a n false q e h = let z : _≡_ {A = ℕ} 0 1 = cc in absurd (omega arith)
+
+pub served-inside : (m a n : ℕ) → accessOf m a n ≡ Access.Served → a + n ≤ m
+unfolding accessOf
+served-inside m a n h = served-cases m a n (eqb (a % n) 0) (leb (a + n) m) refl h
+
+-- a block of zeros put back where it was lent from
+pub block : (a : ℕ) (m ys : List ℕ) → a + 32 ≤ length m → ys ≡ replicate (length (take (a + 32 - a) (drop a m))) 0
+    → putMid a (a + 32 - a) m ys ≡ sets m a (replicate 32 0)
+block a m ys h e =
+    let k : a + 32 - a ≡ 32 = omega arith in
+    let l : 32 ≤ length (drop a m) = simp length-drop (omega arith) in
+    rw (e, k, length-take-le 32 (drop a m) l, drop-drop, sets-eq (replicate 32 0) m a h, append-assoc)

@@ -1,0 +1,26 @@
+-- Fetches and loads: big-endian numbers in lent memory (2.4.1).
+use Prim.Native.Nat.{ℕ, _+_, _*_, _^_}
+use mathlib.Core.List.{List}
+use lib.ListN.{getD, length}
+use Rattle.memory.specs.Access.{bytes, accessOf}
+use Rattle.memory.specs.declared.access.Width.{Width}
+use Rattle.memory.specs.declared.access.Access.{Access}
+use Rattle.memory.specs.declared.load.Loaded.{Loaded}
+
+-- MS(a, n) of 1.2, as a number: the first byte is the most significant
+unfoldable pub valueAt : Width → List ℕ → ℕ → ℕ
+valueAt Width.Byte m a = getD m a 0
+valueAt Width.Half m a = getD m a 0 * 2 ^ 8 + getD m (a + 1) 0
+valueAt Width.Word m a = getD m a 0 * 2 ^ 24 + getD m (a + 1) 0 * 2 ^ 16 + getD m (a + 2) 0 * 2 ^ 8 + getD m (a + 3) 0
+
+abbrev pub loaded : Access → ℕ → Loaded
+loaded Access.Served v = Loaded.Value v
+loaded Access.Unaligned v = Loaded.Unaligned
+loaded Access.Outside v = Loaded.Outside
+
+unfoldable pub loadOf : List ℕ → ℕ → Width → Loaded
+loadOf m a w = loaded (accessOf (length m) a (bytes w)) (valueAt w m a)
+
+-- the word at the instruction address
+unfoldable pub fetchOf : List ℕ → ℕ → Loaded
+fetchOf m iar = loadOf m iar Width.Word

@@ -1,0 +1,55 @@
+// What becomes of an access: the board's rule, in one place.
+ghost use mathlib.Core.Path.{_≡_};
+ghost use Prim.Native.Nat.{_%_};
+ghost use lib.Dec.{eqb};
+ghost use Rattle.memory.specs.Access.{bytes, accessOf};
+
+// How wide an access is.
+pub enum Width {
+    Byte,
+    Half,
+    Word,
+}
+
+pub enum Access {
+    Served,
+    Unaligned,
+    Outside,
+}
+
+fn size(width: Width) -> usize
+    ensures { λ r. ⌜ r ≡ bytes width ⌝ }
+{
+    match width {
+        Width::Byte => 1,
+        Width::Half => 2,
+        Width::Word => 4,
+    }
+}
+
+// By width, so that no division is left to run.
+fn aligned(address: u32, width: Width) -> bool
+    ensures { λ r. ⌜ r ≡ eqb (address % bytes width) 0 ⌝ }
+{
+    match width {
+        Width::Byte => true,
+        Width::Half => address % 2 == 0,
+        Width::Word => address % 4 == 0,
+    }
+}
+
+// An access of a width at an address, in `len` bytes of lent memory.
+pub fn access_at(len: usize, address: u32, width: Width) -> Access
+    ensures { λ r. ⌜ r ≡ accessOf len address (bytes width) ⌝ }
+{
+    let past = address as usize + size(width);
+    if aligned(address, width) {
+        if past <= len {
+            Access::Served
+        } else {
+            Access::Outside
+        }
+    } else {
+        Access::Unaligned
+    }
+}
