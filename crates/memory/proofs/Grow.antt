@@ -8,9 +8,10 @@ use lib.ListN.{length, set, replicate, length-append, List·getD-append, length-
 use lib.Seq.{set-append-left, sets, length-sets}
 use lib.Dec.{leb, eqb}
 use borrow.Author.Tests.{le-leb, leb-true}
-use Rattle.memory.specs.declared.access.Width.{Width}
+use Rattle.word.specs.declared.width.Width.{Width}
 use Rattle.memory.specs.declared.access.Access.{Access}
-use Rattle.memory.specs.Access.{pick, bytes, accessOf, reachesPast}
+use Rattle.word.specs.Width.{bytes}
+use Rattle.memory.specs.Access.{pick, accessOf, reachesPast}
 use Rattle.memory.specs.Load.{valueAt, loaded, loadOf, fetchOf}
 use Rattle.memory.specs.Store.{bytesOf, written, storedOf, blockAt, clearedOf}
 use Rattle.memory.proofs.Laws.{served-inside}
@@ -64,7 +65,7 @@ written-grow m x a bs Access.Served e = sets-grow bs m x a (served-inside (lengt
 written-grow m x a bs Access.Unaligned e = refl
 written-grow m x a bs Access.Outside e = refl
 
-bytes-length : (w : Width) (v : ℕ) → length (bytesOf w v) ≡ bytes w
+pub bytes-length : (w : Width) (v : ℕ) → length (bytesOf w v) ≡ bytes w
 unfolding bytesOf
 bytes-length Width.Byte v = refl
 bytes-length Width.Half v = refl

@@ -9,8 +9,9 @@ use lib.ListN.{length, take, drop, replicate, length-drop}
 use lib.Seq.{sets, length-take-le, drop-drop, sets-eq}
 use borrow.Author.Tests.{leb-true}
 use borrow.Rule.Slice.PartMut.{putMid}
-use Rattle.memory.specs.Access.{pick, bytes, accessOf}
-use Rattle.memory.specs.declared.access.Width.{Width}
+use Rattle.word.specs.Width.{bytes}
+use Rattle.memory.specs.Access.{pick, accessOf}
+use Rattle.word.specs.declared.width.Width.{Width}
 use Rattle.memory.specs.declared.access.Access.{Access}
 
 pub bytes-le : (w : Width) → bytes w ≤ 4

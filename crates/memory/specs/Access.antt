@@ -1,19 +1,13 @@
 -- What becomes of an access. The manual leaves alignment and addressability to the board (2.4, 2.4.2); this is the board's rule.
 use Prim.Native.Nat.{ℕ, _+_, _%_}
-use mathlib.Core.Bool.{Bool, true, false}
+use mathlib.Core.Bool.{Bool, true, false, not, _&&_}
 use lib.Dec.{leb, eqb}
-use Rattle.memory.specs.declared.access.Width.{Width}
 use Rattle.memory.specs.declared.access.Access.{Access}
 
 -- one of two, by a test
 abbrev pub pick : {A : Type 0} → Bool → A → A → A
 pick true a b = a
 pick false a b = b
-
-abbrev pub bytes : Width → ℕ
-bytes Width.Byte = 1
-bytes Width.Half = 2
-bytes Width.Word = 4
 
 -- n bytes at address a, in m bytes of memory: aligned to their number, then inside
 unfoldable pub accessOf : ℕ → ℕ → ℕ → Access
@@ -24,3 +18,7 @@ abbrev pub reachesPast : Access → Bool
 reachesPast Access.Served = false
 reachesPast Access.Unaligned = false
 reachesPast Access.Outside = true
+
+-- M is a multiple of 32, from 32 to 1,048,576
+unfoldable pub sizedOf : ℕ → Bool
+sizedOf m = not (eqb m 0) && eqb (m % 32) 0 && leb m 1048576

@@ -2,8 +2,9 @@
 use Prim.Native.Nat.{ℕ, _+_, _*_, _^_}
 use mathlib.Core.List.{List}
 use lib.ListN.{getD, length}
-use Rattle.memory.specs.Access.{bytes, accessOf}
-use Rattle.memory.specs.declared.access.Width.{Width}
+use Rattle.word.specs.Width.{bytes}
+use Rattle.memory.specs.Access.{accessOf}
+use Rattle.word.specs.declared.width.Width.{Width}
 use Rattle.memory.specs.declared.access.Access.{Access}
 use Rattle.memory.specs.declared.load.Loaded.{Loaded}
 

@@ -3,8 +3,9 @@ use Prim.Native.Nat.{ℕ, _*_, _/_, _%_, _^_}
 use mathlib.Core.List.{List, [], _∷_}
 use lib.ListN.{length, replicate}
 use lib.Seq.{sets}
-use Rattle.memory.specs.Access.{bytes, accessOf}
-use Rattle.memory.specs.declared.access.Width.{Width}
+use Rattle.word.specs.Width.{bytes}
+use Rattle.memory.specs.Access.{accessOf}
+use Rattle.word.specs.declared.width.Width.{Width}
 use Rattle.memory.specs.declared.access.Access.{Access}
 
 -- the last bytes of a value, the most significant first

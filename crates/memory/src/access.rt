@@ -2,29 +2,16 @@
 ghost use mathlib.Core.Path.{_≡_};
 ghost use Prim.Native.Nat.{_%_};
 ghost use lib.Dec.{eqb};
-ghost use Rattle.memory.specs.Access.{bytes, accessOf};
+ghost use Rattle.word.specs.Width.{bytes};
+ghost use Rattle.memory.specs.Access.{accessOf, sizedOf};
+use word::width::Width;
+use word::width::size;
 
-// How wide an access is.
-pub enum Width {
-    Byte,
-    Half,
-    Word,
-}
-
+// What becomes of it.
 pub enum Access {
     Served,
     Unaligned,
     Outside,
-}
-
-fn size(width: Width) -> usize
-    ensures { λ r. ⌜ r ≡ bytes width ⌝ }
-{
-    match width {
-        Width::Byte => 1,
-        Width::Half => 2,
-        Width::Word => 4,
-    }
 }
 
 // By width, so that no division is left to run.
@@ -52,4 +39,11 @@ pub fn access_at(len: usize, address: u32, width: Width) -> Access
     } else {
         Access::Unaligned
     }
+}
+
+// Whether lent memory has a length that the board has.
+pub fn sized(len: usize) -> bool
+    ensures { λ r. ⌜ r ≡ sizedOf len ⌝ }
+{
+    (len != 0) & (len % 32 == 0) & (len <= 1_048_576)
 }

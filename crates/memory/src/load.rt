@@ -2,12 +2,12 @@
 ghost use mathlib.Core.Path.{_≡_};
 ghost use Prim.Native.Nat.{_+_, _*_, _^_, _≤_};
 ghost use lib.ListN.{length};
-ghost use Rattle.memory.specs.Access.{bytes};
+ghost use Rattle.word.specs.Width.{bytes};
 ghost use Rattle.memory.specs.Load.{valueAt, loadOf, fetchOf};
-ghost use Rattle.memory.specs.declared.access.Width.{Width};
+ghost use Rattle.word.specs.declared.width.Width.{Width};
 use crate::access::Access;
-use crate::access::Width;
 use crate::access::access_at;
+use word::width::Width;
 
 pub enum Loaded {
     Value(u32),

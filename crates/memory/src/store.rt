@@ -3,12 +3,13 @@ ghost use mathlib.Core.Path.{_≡_};
 ghost use Prim.Native.Nat.{_+_, _≤_};
 ghost use lib.ListN.{length, replicate};
 ghost use lib.Seq.{sets};
-ghost use Rattle.memory.specs.Access.{bytes, accessOf};
+ghost use Rattle.word.specs.Width.{bytes};
+ghost use Rattle.memory.specs.Access.{accessOf};
 ghost use Rattle.memory.specs.Store.{bytesOf, storedOf, blockAt, clearedOf};
-ghost use Rattle.memory.specs.declared.access.Width.{Width};
+ghost use Rattle.word.specs.declared.width.Width.{Width};
 use crate::access::Access;
-use crate::access::Width;
 use crate::access::access_at;
+use word::width::Width;
 
 fn put_byte(mem: &mut [u8], at: usize, v: u32)
     requires { ⌜ at + 1 ≤ length (now mem) ⌝ }

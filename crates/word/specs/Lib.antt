@@ -1,4 +1,5 @@
 pub mod Bits
+pub mod Width
 pub mod Logical
 pub mod Sum
 pub mod Sign

@@ -3,7 +3,7 @@ use Prim.Native.Nat.{ℕ, zero, suc, _+_, _-_, _*_}
 use mathlib.Core.Bool.{Bool, _&&_, _||_, cond}
 use lib.Bits.{bitAnd, bitOr}
 use lib.Dec.{leb}
-use Rattle.word.specs.Bits.{digit}
+use Rattle.word.specs.Bits.{digit, fieldAt}
 use Rattle.word.specs.Logical.{inv}
 use Rattle.word.specs.Shift.{slw, srw}
 
@@ -32,3 +32,7 @@ mask mb me = wordOf (inMask mb me)
 -- (x ∧ m) ∨ (y ∧ ¬ m)
 abbrev pub under : ℕ → ℕ → ℕ → ℕ
 under m x y = bitOr (bitAnd x m) (bitAnd y (inv m))
+
+-- REG[FLD] ← v of 1.2: v in bits i:j of a word, and the rest of the word as it was
+unfoldable pub putAt : ℕ → ℕ → ℕ → ℕ → ℕ
+putAt w i j v = under (mask i j) (fieldAt i j v) w

@@ -1,10 +1,11 @@
 // ROTL, MASK, and a word put into another under a mask.
 ghost use mathlib.Core.Path.{_≡_};
 ghost use Prim.Native.Nat.{_<_};
-ghost use Rattle.word.specs.Bits.{IsBit};
-ghost use Rattle.word.specs.Rotate.{rotl, mask, under};
+ghost use Rattle.word.specs.Bits.{IsBit, IsPart};
+ghost use Rattle.word.specs.Rotate.{rotl, mask, under, putAt};
 use crate::bits::Bit;
 use crate::bits::Shift;
+use crate::bits::field_at;
 use crate::shift::right;
 use crate::shift::select;
 
@@ -30,4 +31,12 @@ pub fn insert(m: u32, x: u32, y: u32) -> u32
     ensures { λ r. ⌜ r ≡ under m x y ⌝ }
 {
     (x & m) | (y & !m)
+}
+
+// The word with a value in its bits i to j, and the rest as it was.
+pub fn put_at(word: u32, i: Bit, j: Bit, value: u32) -> u32
+    requires { ⌜ IsPart i j ⌝ }
+    ensures { λ r. ⌜ r ≡ putAt word (i .0) (j .0) value ⌝ }
+{
+    insert(mask_of(i, j), field_at(i, j, value), word)
 }

@@ -1,6 +1,6 @@
 // EXTS: a number of fewer bits, extended on the left with its sign bit.
 ghost use mathlib.Core.Path.{_≡_};
-ghost use Prim.Native.Nat.{_%_, _^_};
+ghost use Prim.Native.Nat.{_^_, _<_};
 ghost use Rattle.word.specs.Sign.{exts};
 
 pub fn extend_byte(b: u8) -> u32
@@ -23,10 +23,10 @@ pub fn extend_half(h: u16) -> u32
     }
 }
 
-// The displacement of a branch, LI and two zero bits.
-pub fn extend_26(x: u32) -> u32
-    ensures { λ r. ⌜ r ≡ exts 26 (x % 2 ^ 26) ⌝ }
+// The displacement of b, LI and two zero bits.
+pub fn extend_26(d: u32) -> u32
+    requires { ⌜ d < 2 ^ 26 ⌝ }
+    ensures { λ r. ⌜ r ≡ exts 26 d ⌝ }
 {
-    let d = x % 0x400_0000;
     if d < 0x200_0000 { d } else { d + 0xFC00_0000 }
 }

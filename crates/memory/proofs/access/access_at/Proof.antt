@@ -1,7 +1,8 @@
 -- `memory::access::access_at` meets its contract: the two tests of the rule. Assumes nothing.
 use Prim.Native.Nat.{_+_}
 use Rattle.memory.proofs.Laws.{bytes-le}
-use Rattle.memory.specs.Access.{bytes, accessOf}
+use Rattle.word.specs.Width.{bytes}
+use Rattle.memory.specs.Access.{accessOf}
 use borrow.Author.Tests.{le-leb, lt-leb}
 use native.Mathlib.Omega.{arith}
 use mathlib.Core.Path.{sym, _∙_}

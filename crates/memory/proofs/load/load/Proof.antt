@@ -1,5 +1,5 @@
 -- `memory::load::load` meets its contract: what is served lies inside. Assumes nothing.
-use Rattle.memory.specs.Access.{bytes}
+use Rattle.word.specs.Width.{bytes}
 use Rattle.memory.proofs.Laws.{served-inside}
 use Rattle.memory.specs.Load.{loadOf}
 use mathlib.Core.Path.{sym, _∙_}

@@ -1,5 +1,5 @@
 -- `memory::load::value_at` meets its contract, width by width. Assumes nothing.
-use Rattle.memory.specs.Access.{bytes}
+use Rattle.word.specs.Width.{bytes}
 use native.Mathlib.Omega.{arith}
 use mathlib.Core.Path.{ap}
 use borrow.Author.Needs.{needs}

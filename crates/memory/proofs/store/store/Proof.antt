@@ -1,5 +1,5 @@
 -- `memory::store::store` meets its contract: what is served lies inside. Assumes nothing.
-use Rattle.memory.specs.Access.{bytes}
+use Rattle.word.specs.Width.{bytes}
 use Rattle.memory.proofs.Laws.{served-inside}
 use Rattle.memory.specs.Store.{storedOf}
 use mathlib.Core.Path.{refl, sym, _∙_}

@@ -1,0 +1,21 @@
+-- `abi::ppe42_run` meets its contract: a state of another length, or what the run answers. Assumes nothing.
+use Rattle.abi.specs.Boundary.{runAnswer, runState, runLent}
+use borrow.Author.Tests.{eq-eqb, ne-eqb}
+use mathlib.Core.Path.{refl}
+use borrow.Author.Needs.{needs}
+use Rattle.abi.proofs.ppe42_run.Statement.{statement}
+use Rattle.abi.proofs.ppe42_run.Tie as tie
+
+pub ppe42-run-spec : {M : Type 1} → statement M
+unfolding runAnswer runLent runState
+ppe42-run-spec =
+    tie.close
+    (tie.spec
+    (λ c κs. search needs)
+    (λ c. rw (ne-eqb _ _ (c .before .if1 .taken)) (c .answer .ensures, (refl, refl)))
+    (λ c κs. search needs)
+    (λ c κs. search needs)
+    (λ c κs. search needs)
+    (λ c. search needs)
+    (λ c. search needs)
+    (λ c. rw (eq-eqb _ _ (c .before .before .before .before .before .before .before .before .before .before .if1 .left), ← (c .before .before .before .before .before .before .before .before .state-at .ensures), ← (c .before .before .before .before .before .run .ensures .0), ← (c .before .before .before .before .before .run .ensures .1)) (c .before .before .settle .ensures .0, (c .before .before .settle .ensures .1, refl))))

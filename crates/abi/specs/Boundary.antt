@@ -1,0 +1,74 @@
+-- What crosses the C boundary: a state as 144 lent bytes, and answers as numbers.
+use Prim.Native.Nat.{ℕ, _+_, _*_, _^_}
+use mathlib.Core.Bool.{Bool}
+use mathlib.Core.List.{List}
+use lib.Dec.{eqb}
+use lib.ListN.{length}
+use lib.Seq.{sets}
+use Rattle.memory.specs.Access.{pick}
+use Rattle.insn.specs.Write.{writtenOf}
+use Rattle.insn.specs.declared.instr.Decoded.{Decoded}
+use Rattle.machine.specs.Refusal.{numberOf, acceptsOf}
+use Rattle.machine.specs.declared.state.State.{State}
+use Rattle.machine.specs.declared.refusal.Refusal.{Refusal}
+use Rattle.run.specs.Outcome.{runOutcome, runMemory, stepOutcome, stepMemory}
+use Rattle.run.specs.declared.outcome.Outcome.{Outcome}
+use Rattle.capture.specs.Words.{wordsAt, wordBytes, stateOf, wordsOf}
+use Rattle.capture.specs.Read.{readOf}
+use Rattle.capture.specs.Write.{writtenOf as captureWritten, outOf}
+
+abbrev pub legalOf : Decoded → ℕ
+legalOf (Decoded.Insn i) = 1
+legalOf Decoded.Illegal = 0
+
+abbrev pub rewriteOf : Decoded → ℕ
+rewriteOf (Decoded.Insn i) = 2 ^ 32 + writtenOf i .word
+rewriteOf Decoded.Illegal = 0
+
+-- the refusal's number above, the count below
+abbrev pub answerOf : Refusal → ℕ → ℕ
+answerOf r count = numberOf r * 2 ^ 32 + count
+
+-- a state is 36 words; any other length is refused with 7
+abbrev pub isState : List ℕ → Bool
+isState bytes = eqb (length bytes) 144
+
+abbrev pub lentState : List ℕ → State
+lentState bytes = stateOf (wordsAt 36 bytes 0)
+
+-- the new state in its place; refused, every byte as given
+abbrev pub stored : List ℕ → Outcome → List ℕ
+stored bytes o = pick (acceptsOf (o .refusal)) (sets bytes 0 (wordBytes (wordsOf (o .state)))) bytes
+
+unfoldable pub runAnswer : List ℕ → List ℕ → List ℕ → ℕ → ℕ
+runAnswer s m ev budget =
+    let o = runOutcome (lentState s) m ev budget in
+    pick (isState s) (answerOf (o .refusal) (o .steps)) (answerOf Refusal.Capture 0)
+
+unfoldable pub runState : List ℕ → List ℕ → List ℕ → ℕ → List ℕ
+runState s m ev budget = pick (isState s) (stored s (runOutcome (lentState s) m ev budget)) s
+
+unfoldable pub runLent : List ℕ → List ℕ → List ℕ → ℕ → List ℕ
+runLent s m ev budget = pick (isState s) (runMemory (lentState s) m ev budget) m
+
+unfoldable pub stepAnswer : List ℕ → List ℕ → ℕ → ℕ
+stepAnswer s m e =
+    let o = stepOutcome (lentState s) m e in
+    pick (isState s) (answerOf (o .refusal) (o .steps)) (answerOf Refusal.Capture 0)
+
+unfoldable pub stepState : List ℕ → List ℕ → ℕ → List ℕ
+stepState s m e = pick (isState s) (stored s (stepOutcome (lentState s) m e)) s
+
+unfoldable pub stepLent : List ℕ → List ℕ → ℕ → List ℕ
+stepLent s m e = pick (isState s) (stepMemory (lentState s) m e) m
+
+unfoldable pub checkOf : List ℕ → ℕ
+checkOf file = numberOf (readOf file .refusal)
+
+unfoldable pub writeAnswer : List ℕ → List ℕ → List ℕ → ℕ
+writeAnswer s m out =
+    let w = captureWritten (lentState s) m out in
+    pick (isState s) (answerOf (w .refusal) (w .bytes)) (answerOf Refusal.Capture 0)
+
+unfoldable pub writeOut : List ℕ → List ℕ → List ℕ → List ℕ
+writeOut s m out = pick (isState s) (outOf (lentState s) m out) out

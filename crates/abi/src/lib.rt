@@ -1,0 +1,103 @@
+// The C boundary: exported functions on numbers and lent bytes, declared in include/ppe42.h. Nothing is decided here.
+ghost use mathlib.Core.Path.{_≡_};
+ghost use lib.ListN.{length};
+ghost use Rattle.insn.specs.Read.{decodeOf};
+ghost use Rattle.abi.specs.Boundary.{legalOf, rewriteOf, answerOf, stored, runAnswer, runState, runLent, stepAnswer, stepState, stepLent, checkOf, writeAnswer, writeOut};
+use insn::instr::Decoded;
+use machine::refusal::Refusal;
+use machine::refusal::accepts;
+use machine::refusal::number;
+use run::outcome::Outcome;
+
+// A refusal's number times 2^32, and a count.
+fn answer(refusal: Refusal, count: u32) -> u64
+    ensures { λ r. ⌜ r ≡ answerOf refusal count ⌝ }
+{
+    number(refusal) as u64 * 0x1_0000_0000 + count as u64
+}
+
+// The state that a run or a step left, in its lent bytes; where it was refused, the bytes stay.
+fn settle(state: &mut [u8], outcome: Outcome) -> u64
+    requires { ⌜ length (now state) ≡ 144 ⌝ }
+    ensures { λ r. ⌜ (r ≡ answerOf (outcome .refusal) (outcome .steps)) × (now (state .exit) ≡ stored (now (state .entry)) outcome) ⌝ }
+{
+    let refusal = outcome.refusal;
+    let next = outcome.state;
+    let given = answer(refusal, outcome.steps);
+    if accepts(refusal) {
+        capture::words::put_state(state, 0, next);
+        return given;
+    }
+    given
+}
+
+// 1 for a legal word, 0 for an illegal one.
+#[no_mangle]
+pub extern "C" fn ppe42_legal(word: u32) -> u32
+    ensures { λ r. ⌜ r ≡ legalOf (decodeOf word) ⌝ }
+{
+    let what = insn::read::read(word);
+    match what {
+        Decoded::Insn(_) => 1,
+        Decoded::Illegal => 0,
+    }
+}
+
+// 2^32 and the word that reading and then writing gives, or 0 for an illegal one.
+#[no_mangle]
+pub extern "C" fn ppe42_rewrite(word: u32) -> u64
+    ensures { λ r. ⌜ r ≡ rewriteOf (decodeOf word) ⌝ }
+{
+    let what = insn::read::read(word);
+    match what {
+        Decoded::Insn(i) => 0x1_0000_0000 + insn::write::write(i).word as u64,
+        Decoded::Illegal => 0,
+    }
+}
+
+// A run. The state is 36 big-endian words in capture order.
+#[no_mangle]
+pub extern "C" fn ppe42_run(state: &mut [u8], memory: &mut [u8], events: &[u8], budget: u32) -> u64
+    ensures { λ r. ⌜ (r ≡ runAnswer (now (state .entry)) (now (memory .entry)) (now (events .entry)) budget) × ((now (state .exit) ≡ runState (now (state .entry)) (now (memory .entry)) (now (events .entry)) budget) × (now (memory .exit) ≡ runLent (now (state .entry)) (now (memory .entry)) (now (events .entry)) budget)) ⌝ }
+{
+    if state.len() != 144 {
+        return answer(Refusal::Capture, 0);
+    }
+    let start = capture::words::state_at(&state[..], 0);
+    settle(state, run::run::run(start, memory, events, budget))
+}
+
+// One step, with its event byte.
+#[no_mangle]
+pub extern "C" fn ppe42_step(state: &mut [u8], memory: &mut [u8], event: u8) -> u64
+    ensures { λ r. ⌜ (r ≡ stepAnswer (now (state .entry)) (now (memory .entry)) event) × ((now (state .exit) ≡ stepState (now (state .entry)) (now (memory .entry)) event) × (now (memory .exit) ≡ stepLent (now (state .entry)) (now (memory .entry)) event)) ⌝ }
+{
+    if state.len() != 144 {
+        return answer(Refusal::Capture, 0);
+    }
+    let start = capture::words::state_at(&state[..], 0);
+    settle(state, run::run::step(start, memory, event))
+}
+
+// The refusal that reading a capture gives, or 0.
+#[no_mangle]
+pub extern "C" fn ppe42_capture_check(file: &[u8]) -> u32
+    ensures { λ r. ⌜ r ≡ checkOf (now (file .entry)) ⌝ }
+{
+    let refusal = capture::read::state_of(file).refusal;
+    number(refusal)
+}
+
+// A capture written into the first M + 156 bytes of the output.
+#[no_mangle]
+pub extern "C" fn ppe42_capture_write(state: &[u8], memory: &[u8], out: &mut [u8]) -> u64
+    ensures { λ r. ⌜ (r ≡ writeAnswer (now (state .entry)) (now (memory .entry)) (now (out .entry))) × (now (out .exit) ≡ writeOut (now (state .entry)) (now (memory .entry)) (now (out .entry))) ⌝ }
+{
+    if state.len() != 144 {
+        return answer(Refusal::Capture, 0);
+    }
+    let start = capture::words::state_at(state, 0);
+    let written = capture::write::write(start, memory, out);
+    let refusal = written.refusal;
+    answer(refusal, written.bytes as u32)
+}

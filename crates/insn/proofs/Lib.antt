@@ -1,0 +1,2 @@
+-- What the proofs of several functions share, and the theorems on reading and writing.
+pub mod Laws

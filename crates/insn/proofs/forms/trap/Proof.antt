@@ -1,0 +1,13 @@
+-- `insn::forms::trap` meets its contract. Assumes nothing.
+use Rattle.insn.proofs.forms.trap.Statement.{statement}
+use Rattle.insn.proofs.forms.trap.Tie as tie
+
+pub trap-spec : {M : Type 1} → statement M
+trap-spec =
+    tie.close
+    (tie.spec
+    (λ c κs. tt)
+    (λ c κs. tt)
+    (λ c κs. tt)
+    (λ c κs. tt)
+    (λ c. rw (c .written .ensures, c .before .word-x .ensures, c .before .before .two-defined .ensures, c .before .before .before .is-to .ensures)))

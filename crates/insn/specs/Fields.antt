@@ -1,0 +1,63 @@
+-- The parts of a word by bit number, and words made of parts (Power ISA 2.07, instruction formats).
+use Prim.Native.Nat.{ℕ, _+_}
+use mathlib.Core.Bool.{Bool}
+use Rattle.word.specs.Bits.{digit, bitAt, bitsAt, fieldAt}
+use Rattle.insn.specs.declared.fields.Fields.{Fields}
+
+-- SPRN ← SPRF5:9 || SPRF0:4, where SPRF is 11:20 (9.4.54)
+abbrev pub sprOf : ℕ → ℕ
+sprOf w = fieldAt 22 26 (bitsAt w 16 20) + fieldAt 27 31 (bitsAt w 11 15)
+
+-- rt is RS, TO, BO or a hint too; ra is BI too; rb is SH or BH too; imm is SI, UI or D; rc is LK or TG too;
+-- x is the extended opcode of X forms, xo that of XO forms
+unfoldable pub fieldsOf : ℕ → Fields
+fieldsOf w =
+    record {
+      word = w;
+      op = bitsAt w 0 5;
+      rt = bitsAt w 6 10;
+      ra = bitsAt w 11 15;
+      rb = bitsAt w 16 20;
+      mb = bitsAt w 21 25;
+      me = bitsAt w 26 30;
+      x = bitsAt w 21 30;
+      xo = bitsAt w 22 30;
+      imm = bitsAt w 16 31;
+      bd = bitsAt w 16 29;
+      li = bitsAt w 6 29;
+      spr = sprOf w;
+      e = bitAt w 16;
+      oe = bitAt w 21;
+      aa = bitAt w 30;
+      rc = bitAt w 31;
+    }
+
+-- what no part names is reserved, and zero
+abbrev pub wordD : ℕ → ℕ → ℕ → ℕ → ℕ
+wordD op rt ra imm = fieldAt 0 5 op + fieldAt 6 10 rt + fieldAt 11 15 ra + fieldAt 16 31 imm
+
+abbrev pub wordX : ℕ → ℕ → ℕ → ℕ → ℕ → Bool → ℕ
+wordX op rt ra rb x rc =
+    fieldAt 0 5 op + fieldAt 6 10 rt + fieldAt 11 15 ra + fieldAt 16 20 rb + fieldAt 21 30 x + fieldAt 31 31 (digit rc)
+
+abbrev pub wordXO : ℕ → ℕ → ℕ → Bool → ℕ → Bool → ℕ
+wordXO rt ra rb oe xo rc =
+    fieldAt 0 5 31 + fieldAt 6 10 rt + fieldAt 11 15 ra + fieldAt 16 20 rb + fieldAt 21 21 (digit oe) + fieldAt 22 30 xo + fieldAt 31 31 (digit rc)
+
+abbrev pub wordXFX : ℕ → ℕ → ℕ → ℕ
+wordXFX rt fxm x = fieldAt 0 5 31 + fieldAt 6 10 rt + fieldAt 12 19 fxm + fieldAt 21 30 x
+
+-- the X form of wrteei
+abbrev pub wordE : Bool → ℕ → ℕ
+wordE e x = fieldAt 0 5 31 + fieldAt 16 16 (digit e) + fieldAt 21 30 x
+
+abbrev pub wordM : ℕ → ℕ → ℕ → ℕ → ℕ → ℕ → Bool → ℕ
+wordM op rs ra rb mb me rc =
+    fieldAt 0 5 op + fieldAt 6 10 rs + fieldAt 11 15 ra + fieldAt 16 20 rb + fieldAt 21 25 mb + fieldAt 26 30 me + fieldAt 31 31 (digit rc)
+
+abbrev pub wordB : ℕ → ℕ → ℕ → Bool → Bool → ℕ
+wordB bo bi bd aa lk =
+    fieldAt 0 5 16 + fieldAt 6 10 bo + fieldAt 11 15 bi + fieldAt 16 29 bd + fieldAt 30 30 (digit aa) + fieldAt 31 31 (digit lk)
+
+abbrev pub wordI : ℕ → Bool → Bool → ℕ
+wordI li aa lk = fieldAt 0 5 18 + fieldAt 6 29 li + fieldAt 30 30 (digit aa) + fieldAt 31 31 (digit lk)

@@ -1,0 +1,5 @@
+pub mod Fields
+pub mod Codes
+pub mod Valid
+pub mod Write
+pub mod Read

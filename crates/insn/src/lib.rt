@@ -1,0 +1,7 @@
+pub mod codes;
+pub mod fields;
+pub mod forms;
+pub mod instr;
+pub mod read;
+pub mod valid;
+pub mod write;

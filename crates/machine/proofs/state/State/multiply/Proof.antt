@@ -1,0 +1,14 @@
+-- `State::multiply` meets its contract, by what its callees ensure. Assumes nothing.
+use borrow.Author.Needs.{needs}
+use Rattle.machine.proofs.state.State.multiply.Statement.{statement}
+use Rattle.machine.proofs.state.State.multiply.Tie as tie
+
+pub multiply-spec : {M : Type 1} → statement M
+multiply-spec =
+    tie.close
+    (tie.spec
+    (λ c κs. search needs)
+    (λ c κs. search needs)
+    (λ c κs. search needs)
+    (λ c κs. search needs)
+    (λ c. rw (c .finish .ensures, c .before .product-of .ensures, c .before .before .reg2 .ensures, c .before .before .before .reg .ensures)))

@@ -1,0 +1,16 @@
+pub mod State
+pub mod Refusal
+pub mod Register
+pub mod Interrupt
+pub mod Timer
+pub mod Result
+pub mod Arithmetic
+pub mod Logical
+pub mod Compare
+pub mod Rotate
+pub mod After
+pub mod LoadStore
+pub mod Branch
+pub mod Cache
+pub mod System
+pub mod Step

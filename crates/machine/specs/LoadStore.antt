@@ -1,0 +1,66 @@
+-- Loads and stores (9.4.38 to 9.4.51, 9.4.82 to 9.4.95). Nothing is written before the access is known to be served (4.3.3).
+use Prim.Native.Nat.{ℕ, _+_, _%_, _^_}
+use mathlib.Core.Bool.{Bool, true, false}
+use mathlib.Core.List.{List}
+use lib.ListN.{length}
+use Rattle.word.specs.Sign.{exts}
+use Rattle.word.specs.Width.{bytes}
+use Rattle.word.specs.declared.width.Width.{Width}
+use Rattle.memory.specs.Access.{pick, accessOf, reachesPast}
+use Rattle.memory.specs.Load.{loadOf}
+use Rattle.memory.specs.Store.{storedOf}
+use Rattle.memory.specs.declared.access.Access.{Access}
+use Rattle.memory.specs.declared.load.Loaded.{Loaded}
+use Rattle.insn.specs.declared.instr.LoadStore.{LoadStore}
+use Rattle.machine.specs.State.{gprOf, baseOf, withGpr}
+use Rattle.machine.specs.Interrupt.{interruptedOf}
+use Rattle.machine.specs.Result.{nextOf}
+use Rattle.machine.specs.After.{After}
+use Rattle.machine.specs.declared.state.State.{State}
+use Rattle.machine.specs.declared.interrupt.Cause.{Cause}
+
+-- EA ← (RA|0) + EXTS(D); update forms, where EA ← (RA) + EXTS(D), have no RA 0
+unfoldable pub offsetEa : State → ℕ → ℕ → ℕ
+offsetEa s ra d = (baseOf s ra + exts 16 d) % 2 ^ 32
+
+-- EA ← (RA|0) + (RB)
+unfoldable pub indexedEa : State → ℕ → ℕ → ℕ
+indexedEa s ra rb = (baseOf s ra + gprOf s rb) % 2 ^ 32
+
+-- (RA) ← EA in update forms
+unfoldable pub updatedOf : State → Bool → ℕ → ℕ → State
+updatedOf s update ra ea = pick update (withGpr s ra ea) s
+
+-- the value in RT, or the interrupt
+abbrev pub loadedState : State → Loaded → ℕ → Bool → ℕ → ℕ → State
+loadedState s (Loaded.Value v) rt update ra ea = nextOf (withGpr (updatedOf s update ra ea) rt v)
+loadedState s Loaded.Unaligned rt update ra ea = interruptedOf s (Cause.Alignment ea false)
+loadedState s Loaded.Outside rt update ra ea = interruptedOf s (Cause.DataStorage ea false)
+
+unfoldable pub loadAt : State → List ℕ → Width → ℕ → ℕ → Bool → ℕ → After
+loadAt s m w rt ea update ra =
+    record {
+      st = loadedState s (loadOf m ea w) rt update ra ea;
+      mem = m;
+      past = reachesPast (accessOf (length m) ea (bytes w));
+    }
+
+abbrev pub storedState : State → Access → Bool → ℕ → ℕ → State
+storedState s Access.Served update ra ea = nextOf (updatedOf s update ra ea)
+storedState s Access.Unaligned update ra ea = interruptedOf s (Cause.Alignment ea true)
+storedState s Access.Outside update ra ea = interruptedOf s (Cause.DataStorage ea true)
+
+-- the last bytes of (RS)
+unfoldable pub storeAt : State → List ℕ → Width → ℕ → ℕ → Bool → ℕ → After
+storeAt s m w rs ea update ra =
+    record {
+      st = storedState s (accessOf (length m) ea (bytes w)) update ra ea;
+      mem = storedOf m ea w (gprOf s rs);
+      past = reachesPast (accessOf (length m) ea (bytes w));
+    }
+
+unfoldable pub loadStoreOf : State → List ℕ → LoadStore → After
+loadStoreOf s m (LoadStore.Load w update rt ra d) = loadAt s m w rt (offsetEa s ra d) update ra
+loadStoreOf s m (LoadStore.LoadIndexed w rt ra rb) = loadAt s m w rt (indexedEa s ra rb) false ra
+loadStoreOf s m (LoadStore.Store w update rs ra d) = storeAt s m w rs (offsetEa s ra d) update ra
+loadStoreOf s m (LoadStore.StoreIndexed w rs ra rb) = storeAt s m w rs (indexedEa s ra rb) false ra

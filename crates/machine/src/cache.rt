@@ -1,0 +1,41 @@
+// The cache instructions: only dcbz does anything.
+ghost use mathlib.Core.Path.{_≡_};
+ghost use Rattle.machine.specs.Cache.{clearAt, cacheOf};
+use crate::interrupt::Cause;
+use crate::state::State;
+use insn::instr::CacheOp;
+use memory::access::Access;
+use memory::store;
+
+impl State {
+    fn clear_at(self, mem: &mut [u8], ea: u32) -> State
+        ensures { λ r. ⌜ (r ≡ clearAt self (now (mem .entry)) ea .st) × (now (mem .exit) ≡ clearAt self (now (mem .entry)) ea .mem) ⌝ }
+    {
+        let done = store::clear(mem, ea);
+        match done {
+            Access::Served => self.next(),
+            Access::Unaligned => self.interrupt(Cause::Alignment {
+                address: ea,
+                store: true,
+            }),
+            Access::Outside => self.interrupt(Cause::DataStorage {
+                address: ea,
+                store: true,
+            }),
+        }
+    }
+
+    pub fn cache(self, mem: &mut [u8], op: CacheOp, ra: u8, rb: u8) -> State
+        ensures { λ r. ⌜ (r ≡ cacheOf self (now (mem .entry)) op ra rb .st) × (now (mem .exit) ≡ cacheOf self (now (mem .entry)) op ra rb .mem) ⌝ }
+    {
+        match op {
+            CacheOp::Dcbf => self.next(),
+            CacheOp::Dcbi => self.next(),
+            CacheOp::Dcbt => self.next(),
+            CacheOp::Dcbz => {
+                let ea = self.indexed_ea(ra, rb);
+                self.clear_at(mem, ea)
+            }
+        }
+    }
+}

@@ -1,0 +1,45 @@
+// Why bad input is refused, and the number that stands for it.
+ghost use mathlib.Core.Path.{_≡_};
+ghost use Rattle.machine.specs.Refusal.{numberOf, acceptsOf};
+
+pub enum Refusal {
+    None,
+    Memory,
+    Iar,
+    Reserved,
+    Budget,
+    Events,
+    Capture,
+    Output,
+}
+
+pub fn number(r: Refusal) -> u32
+    ensures { λ n. ⌜ n ≡ numberOf r ⌝ }
+{
+    match r {
+        Refusal::None => 0,
+        Refusal::Memory => 1,
+        Refusal::Iar => 2,
+        Refusal::Reserved => 3,
+        Refusal::Budget => 4,
+        Refusal::Events => 5,
+        Refusal::Capture => 7,
+        Refusal::Output => 8,
+    }
+}
+
+// Whether there is none.
+pub fn accepts(r: Refusal) -> bool
+    ensures { λ b. ⌜ b ≡ acceptsOf r ⌝ }
+{
+    match r {
+        Refusal::None => true,
+        Refusal::Memory => false,
+        Refusal::Iar => false,
+        Refusal::Reserved => false,
+        Refusal::Budget => false,
+        Refusal::Events => false,
+        Refusal::Capture => false,
+        Refusal::Output => false,
+    }
+}

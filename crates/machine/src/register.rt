@@ -1,0 +1,102 @@
+// What each register holds and which of its bits are defined.
+ghost use mathlib.Core.Path.{_≡_};
+ghost use Rattle.machine.specs.Register.{definedOf, contentsOf, cleanOf, soundOf, refusalOf};
+use crate::refusal::Refusal;
+use crate::state::Reg;
+use crate::state::State;
+
+// The bits that a register has; all others are reserved.
+pub fn defined(r: Reg) -> u32
+    ensures { λ v. ⌜ v ≡ definedOf r ⌝ }
+{
+    match r {
+        Reg::Cr => 0xF000_0000,
+        Reg::Ctr => 0xFFFF_FFFF,
+        Reg::Dacr => 0xFFFF_FFFF,
+        Reg::Dbcr => 0x318C_0000,
+        Reg::Dec => 0xFFFF_FFFF,
+        Reg::Edr => 0xFFFF_FFFF,
+        Reg::Isr => 0x0000_F4CF,
+        Reg::Ivpr => 0xFFFF_FE00,
+        Reg::Lr => 0xFFFF_FFFF,
+        Reg::Msr => 0x7FFF_9DFF,
+        Reg::Pir => 0x0000_FFFF,
+        Reg::Pvr => 0xFFFF_FFFF,
+        Reg::Sprg0 => 0xFFFF_FFFF,
+        Reg::Srr0 => 0xFFFF_FFFC,
+        Reg::Srr1 => 0x7FFF_9DFF,
+        Reg::Tcr => 0xFFC0_0000,
+        Reg::Tsr => 0xFC00_0000,
+        Reg::Xer => 0xE000_0000,
+        Reg::Iar => 0xFFFF_FFFC,
+        Reg::Halt => 0xFFFF_FFFF,
+    }
+}
+
+impl State {
+    pub fn get(self, r: Reg) -> u32
+        ensures { λ v. ⌜ v ≡ contentsOf self r ⌝ }
+    {
+        match r {
+            Reg::Cr => self.cr,
+            Reg::Ctr => self.ctr,
+            Reg::Dacr => self.dacr,
+            Reg::Dbcr => self.dbcr,
+            Reg::Dec => self.dec,
+            Reg::Edr => self.edr,
+            Reg::Isr => self.isr,
+            Reg::Ivpr => self.ivpr,
+            Reg::Lr => self.lr,
+            Reg::Msr => self.msr,
+            Reg::Pir => self.pir,
+            Reg::Pvr => self.pvr,
+            Reg::Sprg0 => self.sprg0,
+            Reg::Srr0 => self.srr0,
+            Reg::Srr1 => self.srr1,
+            Reg::Tcr => self.tcr,
+            Reg::Tsr => self.tsr,
+            Reg::Xer => self.xer,
+            Reg::Iar => self.iar,
+            Reg::Halt => self.halt,
+        }
+    }
+
+    // Whether no reserved bit of a register is set.
+    fn clean(self, r: Reg) -> bool
+        ensures { λ b. ⌜ b ≡ cleanOf self r ⌝ }
+    {
+        self.get(r) & !defined(r) == 0
+    }
+
+    // Whether no reserved bit is set and the halt code is one of 0 to 5.
+    fn sound(self) -> bool
+        ensures { λ b. ⌜ b ≡ soundOf self ⌝ }
+    {
+        self.clean(Reg::Cr)
+            & self.clean(Reg::Dbcr)
+            & self.clean(Reg::Isr)
+            & self.clean(Reg::Ivpr)
+            & self.clean(Reg::Msr)
+            & self.clean(Reg::Pir)
+            & self.clean(Reg::Srr0)
+            & self.clean(Reg::Srr1)
+            & self.clean(Reg::Tcr)
+            & self.clean(Reg::Tsr)
+            & self.clean(Reg::Xer)
+            & (self.halt <= 5)
+    }
+
+    // The refusal that this state gets, or none where a run accepts it.
+    pub fn refusal(self) -> Refusal
+        ensures { λ n. ⌜ n ≡ refusalOf self ⌝ }
+    {
+        if self.iar % 4 != 0 {
+            return Refusal::Iar;
+        }
+        if self.sound() {
+            Refusal::None
+        } else {
+            Refusal::Reserved
+        }
+    }
+}

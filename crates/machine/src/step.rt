@@ -1,0 +1,136 @@
+// One step of a core: the six lines in their order.
+ghost use mathlib.Core.Path.{_≡_};
+ghost use Rattle.machine.specs.Step.{executeOf, decodedOf, runningOf, awakeOf, highestOf, interruptibleOf, countedOf, stepOf};
+ghost use Rattle.insn.specs.Read.{decodeOf};
+use crate::interrupt::Cause;
+use crate::interrupt::Vector;
+use crate::state::State;
+use insn::instr::Decoded;
+use insn::instr::Instr;
+use insn::read::read;
+use memory::load::Loaded;
+use memory::load::fetch;
+use word::bits::Bit;
+use word::bits::bit_at;
+
+// Whether an asynchronous interrupt is to be taken, and where it goes.
+pub enum Pending {
+    Take(Vector),
+    Nothing,
+}
+
+impl State {
+    // An instruction, and the word that it was read from.
+    fn execute(self, mem: &mut [u8], word: u32, i: Instr) -> State
+        ensures { λ r. ⌜ (r ≡ executeOf self (now (mem .entry)) word i .st) × (now (mem .exit) ≡ executeOf self (now (mem .entry)) word i .mem) ⌝ }
+    {
+        match i {
+            Instr::Arithmetic(i) => self.arithmetic(i),
+            Instr::Logical(i) => self.logical(i),
+            Instr::Compare(i) => self.compare(i),
+            Instr::Rotate(i) => self.rotate(i),
+            Instr::LoadStore(i) => self.load_store(mem, i),
+            Instr::Branch(i) => self.branch(i),
+            Instr::Trap {
+                to,
+                ra: _,
+                rb: _,
+                tg: _,
+            } => self.trap(word, to),
+            Instr::System(i) => self.system(i),
+            Instr::Cache {
+                op,
+                hint: _,
+                ra,
+                rb,
+            } => self.cache(mem, op, ra, rb),
+        }
+    }
+
+    fn decoded(self, mem: &mut [u8], word: u32) -> State
+        ensures { λ r. ⌜ (r ≡ decodedOf self (now (mem .entry)) word (decodeOf word) .st) × (now (mem .exit) ≡ decodedOf self (now (mem .entry)) word (decodeOf word) .mem) ⌝ }
+    {
+        let what = read(word);
+        match what {
+            Decoded::Insn(i) => self.execute(mem, word, i),
+            Decoded::Illegal => self.interrupt(Cause::Program { word, trap: false }),
+        }
+    }
+
+    // Line 6: fetch at IAR, decode, execute.
+    fn running(self, mem: &mut [u8]) -> State
+        ensures { λ r. ⌜ (r ≡ runningOf self (now (mem .entry)) .st) × (now (mem .exit) ≡ runningOf self (now (mem .entry)) .mem) ⌝ }
+    {
+        let got = fetch(&mem[..], self.iar);
+        match got {
+            Loaded::Value(word) => self.decoded(mem, word),
+            Loaded::Unaligned => self.interrupt(Cause::InstructionStorage),
+            Loaded::Outside => self.interrupt(Cause::InstructionStorage),
+        }
+    }
+
+    // Line 5: the wait state.
+    fn awake(self, mem: &mut [u8]) -> State
+        ensures { λ r. ⌜ (r ≡ awakeOf self (now (mem .entry)) .st) × (now (mem .exit) ≡ awakeOf self (now (mem .entry)) .mem) ⌝ }
+    {
+        if bit_at(self.msr, Bit(13)) {
+            return self;
+        }
+        self.running(mem)
+    }
+
+    // The highest asynchronous interrupt that is enabled.
+    fn highest(self, event: u8) -> Pending
+        ensures { λ r. ⌜ r ≡ highestOf self event ⌝ }
+    {
+        if !bit_at(self.msr, Bit(16)) {
+            return Pending::Nothing;
+        }
+        if bit_at(self.tcr, Bit(4)) & bit_at(self.tsr, Bit(1)) {
+            return Pending::Take(Vector::Watchdog);
+        }
+        if bit_at(event as u32, Bit(31)) {
+            return Pending::Take(Vector::External);
+        }
+        if bit_at(self.tcr, Bit(8)) & bit_at(self.tsr, Bit(5)) {
+            return Pending::Take(Vector::FixedInterval);
+        }
+        if bit_at(self.tcr, Bit(5)) & bit_at(self.tsr, Bit(4)) {
+            return Pending::Take(Vector::Decrementer);
+        }
+        Pending::Nothing
+    }
+
+    // Line 4: an asynchronous interrupt is taken.
+    fn interruptible(self, mem: &mut [u8], event: u8) -> State
+        ensures { λ r. ⌜ (r ≡ interruptibleOf self (now (mem .entry)) (highestOf self event) .st) × (now (mem .exit) ≡ interruptibleOf self (now (mem .entry)) (highestOf self event) .mem) ⌝ }
+    {
+        let pending = self.highest(event);
+        match pending {
+            Pending::Take(v) => self.enter(v),
+            Pending::Nothing => self.awake(mem),
+        }
+    }
+
+    // Line 2, the events, and line 3, the watchdog's action.
+    fn counted(self, mem: &mut [u8], event: u8) -> State
+        ensures { λ r. ⌜ (r ≡ countedOf self (now (mem .entry)) event .st) × (now (mem .exit) ≡ countedOf self (now (mem .entry)) event .mem) ⌝ }
+    {
+        let acts = self.acts(event);
+        let ticked = self.tick(event);
+        if acts {
+            return ticked.act();
+        }
+        ticked.interruptible(mem, event)
+    }
+
+    // One step. Line 1: halted, nothing happens.
+    pub fn step(self, mem: &mut [u8], event: u8) -> State
+        ensures { λ r. ⌜ (r ≡ stepOf self (now (mem .entry)) event .st) × (now (mem .exit) ≡ stepOf self (now (mem .entry)) event .mem) ⌝ }
+    {
+        if self.halt != 0 {
+            return self;
+        }
+        self.counted(mem, event)
+    }
+}

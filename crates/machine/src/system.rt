@@ -1,0 +1,185 @@
+// Traps, and the instructions that move special registers.
+ghost use mathlib.Core.Path.{_≡_};
+ghost use Rattle.memory.specs.Access.{pick};
+ghost use lib.Dec.{eqb};
+ghost use Rattle.machine.specs.declared.interrupt.Halt.{Halt};
+ghost use Rattle.machine.specs.System.{trapOf, sprOf, readOf, resetOf, dbcrWritten, decWritten, isrWritten, tsrWritten, written, sprWritten, sprMoved, enabledOf, movedOf, returnedOf, systemOf};
+use crate::interrupt::Cause;
+use crate::interrupt::Halt;
+use crate::register::defined;
+use crate::state::Reg;
+use crate::state::State;
+use crate::timer::bit_rises;
+use insn::instr::MoveOp;
+use insn::instr::SprOp;
+use insn::instr::System;
+use word::bits::Bit;
+use word::bits::bit_at;
+use word::bits::bits_at;
+use word::bits::digit_of;
+use word::bits::field_at;
+use word::rotate::put_at;
+
+// The register that a number names.
+fn spr(n: u16) -> Reg
+    ensures { λ r. ⌜ r ≡ sprOf n ⌝ }
+{
+    match n {
+        1 => Reg::Xer,
+        8 => Reg::Lr,
+        9 => Reg::Ctr,
+        22 => Reg::Dec,
+        26 => Reg::Srr0,
+        27 => Reg::Srr1,
+        61 => Reg::Edr,
+        62 => Reg::Isr,
+        63 => Reg::Ivpr,
+        272 => Reg::Sprg0,
+        286 => Reg::Pir,
+        287 => Reg::Pvr,
+        308 => Reg::Dbcr,
+        316 => Reg::Dacr,
+        336 => Reg::Tsr,
+        _ => Reg::Tcr,
+    }
+}
+
+// What writing DBCR[RST] asks for, where it is not 00.
+fn asked(rst: u32) -> Halt
+    ensures { λ r. ⌜ r ≡ pick (eqb rst 3) Halt.Debug Halt.Reset ⌝ }
+{
+    if rst == 3 { Halt::Debug } else { Halt::Reset }
+}
+
+impl State {
+    pub fn trap(self, word: u32, to: u8) -> State
+        ensures { λ r. ⌜ r ≡ trapOf self word to ⌝ }
+    {
+        if to == 0 {
+            return self.next();
+        }
+        if bit_at(self.dbcr, Bit(7)) {
+            self.stop(Halt::Trap)
+        } else {
+            self.interrupt(Cause::Program { word, trap: true })
+        }
+    }
+
+    // What mfspr reads.
+    fn read_spr(self, n: u16) -> u32
+        ensures { λ r. ⌜ r ≡ readOf self n ⌝ }
+    {
+        if n == 308 {
+            put_at(self.dbcr, Bit(2), Bit(3), 0)
+        } else {
+            self.get(spr(n))
+        }
+    }
+
+    fn reset(self, rst: u32) -> State
+        ensures { λ r. ⌜ r ≡ resetOf self rst ⌝ }
+    {
+        if rst == 0 {
+            self
+        } else {
+            self.stop(asked(rst))
+        }
+    }
+
+    fn write_dbcr(self, v: u32) -> State
+        ensures { λ r. ⌜ r ≡ dbcrWritten self v ⌝ }
+    {
+        let dbcr = put_at(v & defined(Reg::Dbcr), Bit(2), Bit(3), 0);
+        self.set(Reg::Dbcr, dbcr).reset(bits_at(v, Bit(2), Bit(3)))
+    }
+
+    fn write_dec(self, v: u32) -> State
+        ensures { λ r. ⌜ r ≡ decWritten self v ⌝ }
+    {
+        let dis = digit_of(bit_rises(self.dec, v));
+        let tsr = self.tsr | field_at(Bit(4), Bit(4), dis);
+        self.set(Reg::Tsr, tsr).set(Reg::Dec, v)
+    }
+
+    fn write_isr(self, v: u32) -> State
+        ensures { λ r. ⌜ r ≡ isrWritten self v ⌝ }
+    {
+        let ep = digit_of(bit_at(self.isr, Bit(21)));
+        let isr = put_at(v & defined(Reg::Isr), Bit(21), Bit(21), ep);
+        self.set(Reg::Isr, isr)
+    }
+
+    fn write_tsr(self, v: u32) -> State
+        ensures { λ r. ⌜ r ≡ tsrWritten self v ⌝ }
+    {
+        let tsr = self.tsr & !v;
+        self.set(Reg::Tsr, tsr)
+    }
+
+    // A register written, its reserved bits dropped.
+    fn write(self, r: Reg, v: u32) -> State
+        ensures { λ t. ⌜ t ≡ written self r v ⌝ }
+    {
+        self.set(r, v & defined(r))
+    }
+
+    fn write_spr(self, n: u16, v: u32) -> State
+        ensures { λ r. ⌜ r ≡ sprWritten self n v ⌝ }
+    {
+        match n {
+            22 => self.write_dec(v),
+            62 => self.write_isr(v),
+            308 => self.write_dbcr(v),
+            336 => self.write_tsr(v),
+            _ => self.write(spr(n), v),
+        }
+    }
+
+    fn move_spr(self, op: SprOp, r: u8, n: u16) -> State
+        ensures { λ t. ⌜ t ≡ sprMoved self op r n ⌝ }
+    {
+        match op {
+            SprOp::Mfspr => self.finish(r, self.read_spr(n), false),
+            SprOp::Mtspr => self.write_spr(n, self.reg(r)).next(),
+        }
+    }
+
+    // MSR[EE] alone.
+    fn enable(self, e: bool) -> State
+        ensures { λ r. ⌜ r ≡ enabledOf self e ⌝ }
+    {
+        let msr = put_at(self.msr, Bit(16), Bit(16), digit_of(e));
+        self.set(Reg::Msr, msr).next()
+    }
+
+    fn move_reg(self, op: MoveOp, r: u8) -> State
+        ensures { λ t. ⌜ t ≡ movedOf self op r ⌝ }
+    {
+        match op {
+            MoveOp::Mfcr => self.finish(r, self.cr & defined(Reg::Cr), false),
+            MoveOp::Mtcr0 => self.write(Reg::Cr, self.reg(r)).next(),
+            MoveOp::Mfmsr => self.finish(r, self.msr, false),
+            MoveOp::Mtmsr => self.write(Reg::Msr, self.reg(r)).next(),
+            MoveOp::Wrtee => self.enable(bit_at(self.reg(r), Bit(16))),
+        }
+    }
+
+    fn return_from(self) -> State
+        ensures { λ r. ⌜ r ≡ returnedOf self ⌝ }
+    {
+        let iar = self.srr0 / 4 * 4;
+        self.write(Reg::Msr, self.srr1).set(Reg::Iar, iar)
+    }
+
+    pub fn system(self, i: System) -> State
+        ensures { λ r. ⌜ r ≡ systemOf self i ⌝ }
+    {
+        match i {
+            System::Spr { op, rt, spr } => self.move_spr(op, rt, spr),
+            System::Move { op, rt } => self.move_reg(op, rt),
+            System::Wrteei { e } => self.enable(e),
+            System::Rfi => self.return_from(),
+            System::Sync => self.next(),
+        }
+    }
+}

@@ -1,0 +1,162 @@
+-- What a run leaves is accepted again: a state with no refusal, and a memory as long as before. Assumes nothing.
+use Prim.Native.Nat.{ℕ, zero, suc}
+use mathlib.Core.Bool.{Bool, false}
+use mathlib.Core.Path.{_≡_, refl, _∙_}
+use mathlib.Core.List.{List}
+use lib.Dec.{eqb}
+use lib.ListN.{length, getD}
+use Rattle.word.specs.Bits.{bitAt}
+use Rattle.word.specs.Width.{bytes}
+use Rattle.word.specs.declared.width.Width.{Width}
+use Rattle.memory.specs.Access.{accessOf, sizedOf}
+use Rattle.memory.specs.Load.{loadOf, fetchOf}
+use Rattle.memory.specs.Store.{blockAt}
+use Rattle.memory.specs.declared.load.Loaded.{Loaded}
+use Rattle.memory.proofs.Grow.{stored-length, cleared-length}
+use Rattle.insn.specs.Read.{decodeOf}
+use Rattle.insn.specs.declared.instr.Instr.{Instr}
+use Rattle.insn.specs.declared.instr.Decoded.{Decoded}
+use Rattle.insn.specs.declared.instr.LoadStore.{LoadStore}
+use Rattle.insn.specs.declared.instr.CacheOp.{CacheOp}
+use Rattle.machine.specs.State.{gprOf}
+use Rattle.machine.specs.Refusal.{unless, orElse}
+use Rattle.machine.specs.Register.{refusalOf}
+use Rattle.machine.specs.After.{After}
+use Rattle.machine.specs.LoadStore.{loadAt, storeAt, loadStoreOf}
+use Rattle.machine.specs.Cache.{clearAt, cacheOf}
+use Rattle.machine.specs.Timer.{tickedOf, actsOf}
+use Rattle.machine.specs.Step.{executeOf, decodedOf, fetchedOf, runningOf, awakeOf, highestOf, interruptibleOf, countedOf, stepOf}
+use Rattle.machine.specs.declared.state.State.{State}
+use Rattle.machine.specs.declared.interrupt.Cause.{Cause}
+use Rattle.machine.specs.declared.step.Pending.{Pending}
+use Rattle.machine.specs.declared.refusal.Refusal.{Refusal}
+use Rattle.run.specs.Run.{Ran, runOf}
+use Rattle.run.specs.Outcome.{startRefusal, runRefusal}
+use Rattle.promises.proofs.Sound.{Sound, picked, accepted-sound, sound-accepted, next-sound, entered-sound, interrupted-sound, ticked-sound, acted-sound, arithmetic-sound, logical-sound, compare-sound, rotate-sound, branch-sound, trap-sound, system-sound, loaded-sound, stored-sound, cleared-sound}
+
+-- from a state and a memory to others: a sound state stays sound, and the memory keeps its length
+pub record Kept (s : State) (m : List ℕ) (t : State) (x : List ℕ) : Type 0 where
+  pub st : Sound s → Sound t
+  pub mem : length x ≡ length m
+
+-- the memory as it was
+untouched : {s t : State} {m : List ℕ} → (Sound s → Sound t) → Kept s m t m
+untouched f = record { st = f; mem = refl }
+
+chain : {s t u : State} {m x y : List ℕ} → Kept s m t x → Kept t x u y → Kept s m u y
+chain a b = record { st = λ k. b .st (a .st k); mem = b .mem ∙ a .mem }
+
+abbrev Left : State → List ℕ → After → Type 0
+Left s m a = Kept s m (a .st) (a .mem)
+
+module _ (s : State) (m : List ℕ) where
+  load-left : (w : Width) (rt ea : ℕ) (update : Bool) (ra : ℕ) → Left s m (loadAt s m w rt ea update ra)
+  unfolding loadAt
+  load-left w rt ea update ra = untouched (λ k. loaded-sound k (loadOf m ea w) rt update ra ea)
+
+  store-left : (w : Width) (rs ea : ℕ) (update : Bool) (ra : ℕ) → Left s m (storeAt s m w rs ea update ra)
+  unfolding storeAt
+  store-left w rs ea update ra =
+      record { st = λ k. stored-sound k (accessOf (length m) ea (bytes w)) update ra ea; mem = stored-length m ea w (gprOf s rs) }
+
+  clear-left : (ea : ℕ) → Left s m (clearAt s m ea)
+  unfolding clearAt
+  clear-left ea = record { st = λ k. cleared-sound k (accessOf (length m) (blockAt ea) 32) ea; mem = cleared-length m ea }
+
+  load-store-left : (i : LoadStore) → Left s m (loadStoreOf s m i)
+  unfolding loadStoreOf
+  load-store-left (LoadStore.Load w update rt ra d) = load-left w rt _ update ra
+  load-store-left (LoadStore.LoadIndexed w rt ra rb) = load-left w rt _ false ra
+  load-store-left (LoadStore.Store w update rs ra d) = store-left w rs _ update ra
+  load-store-left (LoadStore.StoreIndexed w rs ra rb) = store-left w rs _ false ra
+
+  cache-left : (op : CacheOp) (ra rb : ℕ) → Left s m (cacheOf s m op ra rb)
+  unfolding cacheOf
+  cache-left CacheOp.Dcbf ra rb = untouched next-sound
+  cache-left CacheOp.Dcbi ra rb = untouched next-sound
+  cache-left CacheOp.Dcbt ra rb = untouched next-sound
+  cache-left CacheOp.Dcbz ra rb = clear-left _
+
+  execute-left : (w : ℕ) (i : Instr) → Left s m (executeOf s m w i)
+  unfolding executeOf
+  execute-left w (Instr.Arithmetic i) = untouched (λ k. arithmetic-sound k i)
+  execute-left w (Instr.Logical i) = untouched (λ k. logical-sound k i)
+  execute-left w (Instr.Compare i) = untouched (λ k. compare-sound k i)
+  execute-left w (Instr.Rotate i) = untouched (λ k. rotate-sound k i)
+  execute-left w (Instr.LoadStore i) = load-store-left i
+  execute-left w (Instr.Branch i) = untouched (λ k. branch-sound k i)
+  execute-left w (Instr.Trap to ra rb tg) = untouched (λ k. trap-sound k w to)
+  execute-left w (Instr.System i) = untouched (λ k. system-sound k i)
+  execute-left w (Instr.Cache op hint ra rb) = cache-left op ra rb
+
+  decoded-left : (w : ℕ) (d : Decoded) → Left s m (decodedOf s m w d)
+  decoded-left w (Decoded.Insn i) = execute-left w i
+  decoded-left w Decoded.Illegal = untouched (λ k. interrupted-sound k (Cause.Program w false))
+
+  fetched-left : (l : Loaded) → Left s m (fetchedOf s m l)
+  fetched-left (Loaded.Value w) = decoded-left w (decodeOf w)
+  fetched-left Loaded.Unaligned = untouched (λ k. interrupted-sound k Cause.InstructionStorage)
+  fetched-left Loaded.Outside = untouched (λ k. interrupted-sound k Cause.InstructionStorage)
+
+  interruptible-left : (p : Pending) → Left s m (interruptibleOf s m p)
+  unfolding awakeOf runningOf
+  interruptible-left (Pending.Take v) = untouched (λ k. entered-sound k v)
+  interruptible-left Pending.Nothing = picked (Left s m) (bitAt (s .msr) 13) (untouched (λ k. k)) (fetched-left (fetchOf m (s .iar)))
+
+step-left : (s : State) (m : List ℕ) (e : ℕ) → Left s m (stepOf s m e)
+unfolding stepOf countedOf
+step-left s m e =
+    let t = tickedOf s e in
+    let turned = picked (Left t m) (actsOf s e) (untouched acted-sound) (interruptible-left t m (highestOf t e)) in
+    picked (Left s m) (eqb (s .halt) 0) (chain (untouched (λ k. ticked-sound k e)) turned) (untouched (λ k. k))
+
+run-left : (n i : ℕ) (ev : List ℕ) (s : State) (m : List ℕ) → Kept s m (runOf n i ev s m .st) (runOf n i ev s m .mem)
+unfolding runOf
+run-left zero i ev s m = untouched (λ k. k)
+run-left (suc n) i ev s m =
+    let a = stepOf s m (getD ev i 0) in
+    picked (λ (r : Ran). Kept s m (r .st) (r .mem)) (eqb (s .halt) 0)
+    (chain (step-left s m (getD ev i 0)) (run-left n (suc i) ev (a .st) (a .mem)))
+    (untouched (λ k. k))
+
+-- a step from an accepted state leaves an accepted state
+pub step-accepted : (s : State) (m : List ℕ) (e : ℕ) → refusalOf s ≡ Refusal.None → refusalOf (stepOf s m e .st) ≡ Refusal.None
+step-accepted s m e h = sound-accepted (step-left s m e .st (accepted-sound s h))
+
+-- two checks in a row that refuse nothing
+first-none : (a b : Refusal) → orElse a b ≡ Refusal.None → a ≡ Refusal.None
+first-none Refusal.None b h = refl
+first-none Refusal.Memory b h = h
+first-none Refusal.Iar b h = h
+first-none Refusal.Reserved b h = h
+first-none Refusal.Budget b h = h
+first-none Refusal.Events b h = h
+first-none Refusal.Capture b h = h
+first-none Refusal.Output b h = h
+
+second-none : (a b : Refusal) → orElse a b ≡ Refusal.None → b ≡ Refusal.None
+second-none a b h = rw (first-none a b h) at h
+
+module _ (n i : ℕ) (ev : List ℕ) (s : State) (m : List ℕ) where
+  -- so does a run
+  pub run-accepted : refusalOf s ≡ Refusal.None → refusalOf (runOf n i ev s m .st) ≡ Refusal.None
+  run-accepted h = sound-accepted (run-left n i ev s m .st (accepted-sound s h))
+
+  -- from any state, a run keeps the memory's length
+  pub run-length : length (runOf n i ev s m .mem) ≡ length m
+  run-length = run-left n i ev s m .mem
+
+  -- a state and a memory that are accepted are accepted as a run left them
+  pub start-again : startRefusal s m ≡ Refusal.None → startRefusal (runOf n i ev s m .st) (runOf n i ev s m .mem) ≡ Refusal.None
+  unfolding startRefusal
+  start-again h =
+      let e : refusalOf s ≡ Refusal.None = second-none (unless (sizedOf (length m)) Refusal.Memory) (refusalOf s) h in
+      rw (run-length, run-accepted e) (rw e at h)
+
+-- a budget and events that are accepted with a state and a memory are accepted with what any run from there left
+pub run-again : (n : ℕ) (ev : List ℕ) (s : State) (m : List ℕ) (ev′ : List ℕ) (budget : ℕ) → runRefusal s m ev′ budget ≡ Refusal.None
+    → (let r = runOf n 0 ev s m in runRefusal (r .st) (r .mem) ev′ budget ≡ Refusal.None)
+unfolding runRefusal
+run-again n ev s m ev′ budget h =
+    let e : startRefusal s m ≡ Refusal.None = first-none (startRefusal s m) _ h in
+    rw (start-again n 0 ev s m e) (rw e at h)

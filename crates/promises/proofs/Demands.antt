@@ -1,0 +1,121 @@
+-- Demands 1 and 3, said of whole runs. Assumes nothing.
+use Prim.Native.Nat.{ℕ, zero, suc, _+_, _-_, _≤_, _%_}
+use native.Mathlib.Omega.{arith}
+use native.Mathlib.Nat.{sub-zero}
+use mathlib.Core.Bool.{Bool, true, false, _&&_}
+use mathlib.Core.Path.{_≡_, refl, ap, sym, _∙_}
+use mathlib.Core.List.{List, _++_}
+use lib.Dec.{eqb, leb}
+use lib.ListN.{getD, length}
+use Rattle.memory.specs.Access.{pick, sizedOf}
+use Rattle.machine.specs.Refusal.{acceptsOf, unless, orElse}
+use Rattle.machine.specs.Register.{soundOf, refusalOf}
+use Rattle.machine.specs.Step.{stepOf}
+use Rattle.machine.specs.declared.state.State.{State}
+use Rattle.machine.specs.declared.refusal.Refusal.{Refusal}
+use Rattle.run.specs.Run.{Ran, runOf, pastOf}
+use Rattle.run.specs.Outcome.{eventsGood, startRefusal, eventsRefusal, runRefusal, stepRefusal, refusedWith, accepted, runOutcome, runMemory, stepOutcome, stepMemory}
+use Rattle.run.proofs.Laws.{run-halted}
+use Rattle.promises.proofs.Grow.{grownRun, run-grow, run-longer}
+
+-- ---- a run ends
+
+steps-cases : (b : Bool) (n i : ℕ) (r q : Ran) → q .steps ≡ i → (suc i ≤ r .steps) × (r .steps ≤ suc i + n) → (i ≤ pick b r q .steps) × (pick b r q .steps ≤ i + suc n)
+steps-cases true n i r q e h = (omega arith, omega arith)
+steps-cases false n i r q e h = (omega arith, omega arith)
+
+steps-between : (n i : ℕ) (ev : List ℕ) (s : State) (m : List ℕ) → (i ≤ runOf n i ev s m .steps) × (runOf n i ev s m .steps ≤ i + n)
+unfolding runOf
+steps-between zero i ev s m = (omega arith, omega arith)
+steps-between (suc n) i ev s m =
+    let a = stepOf s m (getD ev i 0) in
+    steps-cases (eqb (s .halt) 0) n i (runOf n (suc i) ev (a .st) (a .mem)) (record { st = s; mem = m; steps = i }) refl (steps-between n (suc i) ev (a .st) (a .mem))
+
+-- after at most `budget` steps
+pub run-ends : (budget : ℕ) (ev : List ℕ) (s : State) (m : List ℕ) → runOf budget 0 ev s m .steps ≤ budget
+run-ends budget ev s m = let h = steps-between budget 0 ev s m in omega arith
+
+-- ---- refusals
+
+-- a refusal counts no steps and leaves the state and the memory as given
+pub run-refused : (s : State) (m ev : List ℕ) (budget : ℕ) → acceptsOf (runRefusal s m ev budget) ≡ false
+    → (runOutcome s m ev budget ≡ refusedWith s (runRefusal s m ev budget)) × (runMemory s m ev budget ≡ m)
+unfolding runOutcome runMemory
+run-refused s m ev budget h = rw h (refl, refl)
+
+pub step-refused : (s : State) (m : List ℕ) (e : ℕ) → acceptsOf (stepRefusal s m e) ≡ false
+    → (stepOutcome s m e ≡ refusedWith s (stepRefusal s m e)) × (stepMemory s m e ≡ m)
+unfolding stepOutcome stepMemory
+step-refused s m e h = rw h (refl, refl)
+
+pub run-accepted-is : (s : State) (m ev : List ℕ) (budget : ℕ) → acceptsOf (runRefusal s m ev budget) ≡ true
+    → (runOutcome s m ev budget ≡ accepted (runOf budget 0 ev s m)) × (runMemory s m ev budget ≡ runOf budget 0 ev s m .mem)
+unfolding runOutcome runMemory
+run-accepted-is s m ev budget h = rw h (refl, refl)
+
+accepts-cases : (a b c d f : Bool) → acceptsOf (orElse (orElse (unless a Refusal.Memory) (pick b (pick c Refusal.None Refusal.Reserved) Refusal.Iar)) (orElse (unless d Refusal.Budget) (unless f Refusal.Events)))
+    ≡ (a && b && c && d && f)
+accepts-cases true true true true true = refl
+accepts-cases true true true true false = refl
+accepts-cases true true true false f = refl
+accepts-cases true true false d f = refl
+accepts-cases true false c d f = refl
+accepts-cases false b c d f = refl
+
+-- a run is accepted exactly when none of 1, 2, 3, 4 and 5 speaks against it
+pub accepted-exactly : (s : State) (m ev : List ℕ) (budget : ℕ)
+    → acceptsOf (runRefusal s m ev budget)
+    ≡ (sizedOf (length m) && eqb (s .iar % 4) 0 && soundOf s && leb budget 1048576 && (leb (length ev) 1048576 && eventsGood ev))
+unfolding runRefusal startRefusal eventsRefusal refusalOf
+accepted-exactly s m ev budget =
+    accepts-cases (sizedOf (length m)) (eqb (s .iar % 4) 0) (soundOf s) (leb budget 1048576) (leb (length ev) 1048576 && eventsGood ev)
+
+-- ---- more memory, a longer run
+
+again-cases : (b : Bool) (n i : ℕ) (ev : List ℕ) (s : State) (m : List ℕ) (r : Ran) → eqb (s .halt) 0 ≡ b → suc i ≤ r .steps
+    → runOf (r .steps - suc i) (suc i) ev (stepOf s m (getD ev i 0) .st) (stepOf s m (getD ev i 0) .mem) ≡ r
+    → (let q = pick b r (record { st = s; mem = m; steps = i }) in runOf (q .steps - i) i ev s m ≡ q)
+unfolding runOf
+again-cases true n i ev s m r e l h =
+    let k : r .steps - i ≡ suc (r .steps - suc i) = omega arith in
+    rw (k, e) h
+again-cases false n i ev s m r e l h =
+    let k : i - i ≡ 0 = omega arith in
+    rw k
+
+-- a run with just the budget that it used is the same run
+run-again : (n i : ℕ) (ev : List ℕ) (s : State) (m : List ℕ) → (let r = runOf n i ev s m in runOf (r .steps - i) i ev s m ≡ r)
+unfolding runOf
+run-again zero i ev s m =
+    let k : i - i ≡ 0 = omega arith in
+    rw k
+run-again (suc n) i ev s m =
+    let a = stepOf s m (getD ev i 0) in
+    again-cases (eqb (s .halt) 0) n i ev s m (runOf n (suc i) ev (a .st) (a .mem)) refl (steps-between n (suc i) ev (a .st) (a .mem) .0) (run-again n (suc i) ev (a .st) (a .mem))
+
+as-many : (s : State) (m x ev : List ℕ) (budget : ℕ) → runOf budget 0 ev s (m ++ x) ≡ grownRun x (runOf budget 0 ev s m)
+    → runOf (runOf budget 0 ev s m .steps) 0 ev s (m ++ x) ≡ grownRun x (runOf budget 0 ev s m)
+as-many s m x ev budget g =
+    let k : runOf budget 0 ev s (m ++ x) .steps - 0 ≡ runOf budget 0 ev s m .steps = sub-zero _ ∙ ap (λ (q : Ran). q .steps) g in
+    ap (λ (n : ℕ). runOf n 0 ev s (m ++ x)) (sym k) ∙ run-again budget 0 ev s (m ++ x) ∙ g
+
+-- Demand 3. Two accepted starts from one state with one event list, the second with more memory and a budget no smaller. If the first run never
+-- reached past its memory, then after as many steps the second has the same registers and halt, the same bytes in the common part, and its extra
+-- bytes as given; and if the first halted, the second halts there too.
+pub record NeverAlters (s : State) (m x ev : List ℕ) (budget more : ℕ) : Type 0 where
+  pub after-as-many : runOf (runOf budget 0 ev s m .steps) 0 ev s (m ++ x) ≡ grownRun x (runOf budget 0 ev s m)
+  pub goes-on : (let r = runOf budget 0 ev s m in runOf (budget + more) 0 ev s (m ++ x) ≡ runOf more (r .steps) ev (r .st) (r .mem ++ x))
+  pub halts-there : (runOf budget 0 ev s m .st .halt ≡ 0 → ⊥) → runOf (budget + more) 0 ev s (m ++ x) ≡ grownRun x (runOf budget 0 ev s m)
+
+pub never-alters : (s : State) (m x ev : List ℕ) (budget more : ℕ)
+    → acceptsOf (runRefusal s m ev budget) ≡ true → acceptsOf (runRefusal s (m ++ x) ev (budget + more)) ≡ true
+    → pastOf budget 0 ev s m ≡ false → NeverAlters s m x ev budget more
+never-alters s m x ev budget more first second past =
+    let r = runOf budget 0 ev s m in
+    let g : runOf budget 0 ev s (m ++ x) ≡ grownRun x r = run-grow budget 0 ev s m x past in
+    let on : runOf (budget + more) 0 ev s (m ++ x) ≡ runOf more (r .steps) ev (r .st) (r .mem ++ x) = rw (run-longer budget more 0 ev s (m ++ x), g) refl in
+    record {
+      after-as-many = as-many s m x ev budget g;
+      goes-on = on;
+      halts-there = λ h. on ∙ run-halted ev (r .st) (r .mem ++ x) more (r .steps) h;
+    }

@@ -1,0 +1,158 @@
+-- Demand 1: an instruction that faults changes no memory, and no register but those its interrupt sets. Assumes nothing.
+use Prim.Native.Nat.{ℕ}
+use native.Mathlib.Omega.{arith}
+use mathlib.Core.Bool.{Bool, true, false}
+use mathlib.Core.Path.{_≡_, refl, ap, _∙_}
+use mathlib.Core.List.{List}
+use lib.Dec.{eqb}
+use lib.ListN.{length}
+use borrow.Author.Tests.{eq-eqb}
+use Rattle.word.specs.Bits.{bitAt}
+use Rattle.word.specs.Width.{bytes}
+use Rattle.memory.specs.Access.{pick, accessOf}
+use Rattle.memory.specs.Load.{loadOf, fetchOf}
+use Rattle.memory.specs.Store.{blockAt, bytesOf, written, storedOf, clearedOf}
+use Rattle.memory.specs.declared.access.Access.{Access}
+use Rattle.memory.specs.declared.load.Loaded.{Loaded}
+use Rattle.insn.specs.Read.{decodeOf}
+use Rattle.insn.specs.declared.instr.Instr.{Instr}
+use Rattle.insn.specs.declared.instr.Decoded.{Decoded}
+use Rattle.insn.specs.declared.instr.LoadStore.{LoadStore}
+use Rattle.insn.specs.declared.instr.CacheOp.{CacheOp}
+use Rattle.machine.specs.State.{gprOf, with}
+use Rattle.machine.specs.After.{After}
+use Rattle.machine.specs.Interrupt.{enteredOf, accessNoted, programNoted, notedOf, promotedOf, haltedOf, interruptedOf, vectorFor}
+use Rattle.machine.specs.LoadStore.{offsetEa, indexedEa, loadedState, storedState, loadAt, storeAt, loadStoreOf}
+use Rattle.machine.specs.Cache.{clearedState, clearAt, cacheOf}
+use Rattle.machine.specs.System.{trapOf}
+use Rattle.machine.specs.Timer.{tickedOf, actsOf}
+use Rattle.machine.specs.Step.{executeOf, decodedOf, fetchedOf, runningOf, awakeOf, highestOf, countedOf, stepOf}
+use Rattle.machine.specs.declared.state.State.{State}
+use Rattle.machine.specs.declared.interrupt.Cause.{Cause}
+use Rattle.machine.specs.declared.interrupt.Vector.{Vector}
+use Rattle.machine.specs.declared.interrupt.Halt.{Halt}
+use Rattle.machine.specs.declared.step.Pending.{Pending}
+use Rattle.promises.specs.Fault.{nothing, raises, loadRaises, storeRaises, loadStoreRaises, cacheRaises, executeRaises, decodedRaises, fetchedRaises, raisedOf, OnlyInterrupt}
+
+-- what a fault leaves: the interrupted state and the memory as it was
+abbrev pub faulted : State → List ℕ → Cause → After → Type 0
+faulted s m c a = (a .st ≡ interruptedOf s c) × (a .mem ≡ m)
+
+module _ (s : State) (m : List ℕ) (c : Cause) where
+  -- nothing raised is no fault
+  quiet : {A : Type 0} → nothing ≡ raises c → A
+  quiet e = let z : _≡_ {A = ℕ} 0 1 = cc in absurd (omega arith)
+
+  load-faults : (l : Loaded) (rt : ℕ) (u : Bool) (ra ea : ℕ) → loadRaises l ea ≡ raises c → loadedState s l rt u ra ea ≡ interruptedOf s c
+  load-faults (Loaded.Value v) rt u ra ea e = quiet e
+  load-faults Loaded.Unaligned rt u ra ea e = let d : Cause.Alignment ea false ≡ c = cc in ap (interruptedOf s) d
+  load-faults Loaded.Outside rt u ra ea e = let d : Cause.DataStorage ea false ≡ c = cc in ap (interruptedOf s) d
+
+  store-faults : (k : Access) (u : Bool) (ra ea a : ℕ) (bs : List ℕ) → storeRaises k ea ≡ raises c
+      → (storedState s k u ra ea ≡ interruptedOf s c) × (written k m a bs ≡ m)
+  store-faults Access.Served u ra ea a bs e = quiet e
+  store-faults Access.Unaligned u ra ea a bs e = let d : Cause.Alignment ea true ≡ c = cc in (ap (interruptedOf s) d, refl)
+  store-faults Access.Outside u ra ea a bs e = let d : Cause.DataStorage ea true ≡ c = cc in (ap (interruptedOf s) d, refl)
+
+  clear-faults : (k : Access) (ea a : ℕ) (bs : List ℕ) → storeRaises k ea ≡ raises c
+      → (clearedState s k ea ≡ interruptedOf s c) × (written k m a bs ≡ m)
+  clear-faults Access.Served ea a bs e = quiet e
+  clear-faults Access.Unaligned ea a bs e = let d : Cause.Alignment ea true ≡ c = cc in (ap (interruptedOf s) d, refl)
+  clear-faults Access.Outside ea a bs e = let d : Cause.DataStorage ea true ≡ c = cc in (ap (interruptedOf s) d, refl)
+
+  load-store-faults : (i : LoadStore) → loadStoreRaises s m i ≡ raises c → faulted s m c (loadStoreOf s m i)
+  unfolding loadStoreOf loadAt storeAt storedOf
+  load-store-faults (LoadStore.Load w u rt ra d) e = (load-faults (loadOf m (offsetEa s ra d) w) rt u ra (offsetEa s ra d) e, refl)
+  load-store-faults (LoadStore.LoadIndexed w rt ra rb) e = (load-faults (loadOf m (indexedEa s ra rb) w) rt false ra (indexedEa s ra rb) e, refl)
+  load-store-faults (LoadStore.Store w u rs ra d) e =
+      store-faults (accessOf (length m) (offsetEa s ra d) (bytes w)) u ra (offsetEa s ra d) (offsetEa s ra d) (bytesOf w (gprOf s rs)) e
+  load-store-faults (LoadStore.StoreIndexed w rs ra rb) e =
+      store-faults (accessOf (length m) (indexedEa s ra rb) (bytes w)) false ra (indexedEa s ra rb) (indexedEa s ra rb) (bytesOf w (gprOf s rs)) e
+
+  cache-faults : (op : CacheOp) (ra rb : ℕ) → cacheRaises s m op ra rb ≡ raises c → faulted s m c (cacheOf s m op ra rb)
+  unfolding cacheOf clearAt clearedOf
+  cache-faults CacheOp.Dcbf ra rb e = quiet e
+  cache-faults CacheOp.Dcbi ra rb e = quiet e
+  cache-faults CacheOp.Dcbt ra rb e = quiet e
+  cache-faults CacheOp.Dcbz ra rb e = clear-faults (accessOf (length m) (blockAt (indexedEa s ra rb)) 32) (indexedEa s ra rb) (blockAt (indexedEa s ra rb)) _ e
+
+  trap-cases : (w : ℕ) (p q : Bool) (t u : State) → pick p nothing (pick q nothing (raises (Cause.Program w true))) ≡ raises c
+      → pick p t (pick q u (interruptedOf s (Cause.Program w true))) ≡ interruptedOf s c
+  trap-cases w true q t u e = quiet e
+  trap-cases w false true t u e = quiet e
+  trap-cases w false false t u e = let d : Cause.Program w true ≡ c = cc in ap (interruptedOf s) d
+
+  execute-faults : (w : ℕ) (i : Instr) → executeRaises s m w i ≡ raises c → faulted s m c (executeOf s m w i)
+  unfolding executeOf trapOf
+  execute-faults w (Instr.Arithmetic i) e = quiet e
+  execute-faults w (Instr.Logical i) e = quiet e
+  execute-faults w (Instr.Compare i) e = quiet e
+  execute-faults w (Instr.Rotate i) e = quiet e
+  execute-faults w (Instr.LoadStore i) e = load-store-faults i e
+  execute-faults w (Instr.Branch i) e = quiet e
+  execute-faults w (Instr.Trap to ra rb tg) e = (trap-cases w (eqb to 0) (bitAt (s .dbcr) 7) _ _ e, refl)
+  execute-faults w (Instr.System i) e = quiet e
+  execute-faults w (Instr.Cache op hint ra rb) e = cache-faults op ra rb e
+
+  decoded-faults : (w : ℕ) (d : Decoded) → decodedRaises s m w d ≡ raises c → faulted s m c (decodedOf s m w d)
+  decoded-faults w (Decoded.Insn i) e = execute-faults w i e
+  decoded-faults w Decoded.Illegal e = let d : Cause.Program w false ≡ c = cc in (ap (interruptedOf s) d, refl)
+
+  fetched-faults : (l : Loaded) → fetchedRaises s m l ≡ raises c → faulted s m c (fetchedOf s m l)
+  fetched-faults (Loaded.Value w) e = decoded-faults w (decodeOf w) e
+  fetched-faults Loaded.Unaligned e = let d : Cause.InstructionStorage ≡ c = cc in (ap (interruptedOf s) d, refl)
+  fetched-faults Loaded.Outside e = let d : Cause.InstructionStorage ≡ c = cc in (ap (interruptedOf s) d, refl)
+
+  -- line 6: what a fault leaves
+  pub running-faults : raisedOf s m ≡ raises c → faulted s m c (runningOf s m)
+  unfolding raisedOf runningOf
+  running-faults e = fetched-faults (fetchOf m (s .iar)) e
+
+-- a whole step that gets to line 6 and faults there: of the state that line 2 left, only what the interrupt sets is changed
+pub step-faults : (s : State) (m : List ℕ) (e : ℕ) (c : Cause) → s .halt ≡ 0 → actsOf s e ≡ false → highestOf (tickedOf s e) e ≡ Pending.Nothing
+    → bitAt (tickedOf s e .msr) 13 ≡ false → raisedOf (tickedOf s e) m ≡ raises c → faulted (tickedOf s e) m c (stepOf s m e)
+unfolding stepOf countedOf awakeOf
+step-faults s m e c h a p w r = rw (eq-eqb (s .halt) 0 h, a, p, w) (running-faults (tickedOf s e) m c r)
+
+-- a state with other values in the registers of an interrupt
+changed : (s : State) (edr halt iar isr msr srr0 srr1 : ℕ)
+    → OnlyInterrupt s (record { gpr = s .gpr; cr = s .cr; ctr = s .ctr; dacr = s .dacr; dbcr = s .dbcr; dec = s .dec; edr = edr; isr = isr; ivpr = s .ivpr; lr = s .lr; msr = msr; pir = s .pir; pvr = s .pvr; sprg0 = s .sprg0; srr0 = srr0; srr1 = srr1; tcr = s .tcr; tsr = s .tsr; xer = s .xer; iar = iar; halt = halt })
+changed s edr halt iar isr msr srr0 srr1 =
+    record { gpr = refl; cr = refl; ctr = refl; dacr = refl; dbcr = refl; dec = refl; ivpr = refl; lr = refl; pir = refl; pvr = refl; sprg0 = refl; tcr = refl; tsr = refl; xer = refl }
+
+only-trans : {s t u : State} → OnlyInterrupt s t → OnlyInterrupt t u → OnlyInterrupt s u
+only-trans p q =
+    record { gpr = q .gpr ∙ p .gpr; cr = q .cr ∙ p .cr; ctr = q .ctr ∙ p .ctr; dacr = q .dacr ∙ p .dacr; dbcr = q .dbcr ∙ p .dbcr; dec = q .dec ∙ p .dec; ivpr = q .ivpr ∙ p .ivpr; lr = q .lr ∙ p .lr; pir = q .pir ∙ p .pir; pvr = q .pvr ∙ p .pvr; sprg0 = q .sprg0 ∙ p .sprg0; tcr = q .tcr ∙ p .tcr; tsr = q .tsr ∙ p .tsr; xer = q .xer ∙ p .xer }
+
+entered-only : (s : State) (v : Vector) → OnlyInterrupt s (enteredOf s v)
+unfolding enteredOf with
+entered-only s v = changed s _ _ _ _ _ _ _
+
+noted-only : (s : State) (c : Cause) → OnlyInterrupt s (notedOf s c)
+unfolding notedOf accessNoted programNoted with
+noted-only s (Cause.DataStorage a st) = changed s _ _ _ _ _ _ _
+noted-only s Cause.InstructionStorage = changed s _ _ _ _ _ _ _
+noted-only s (Cause.Alignment a st) = changed s _ _ _ _ _ _ _
+noted-only s (Cause.Program w t) = changed s _ _ _ _ _ _ _
+
+promoted-only : (s : State) (c : Cause) → OnlyInterrupt s (promotedOf s c)
+unfolding promotedOf with
+promoted-only s c = changed s _ _ _ _ _ _ _
+
+halted-only : (s : State) (h : Halt) → OnlyInterrupt s (haltedOf s h)
+unfolding haltedOf with
+halted-only s h = changed s _ _ _ _ _ _ _
+
+interrupted-cases : (s : State) (c : Cause) (p q : Bool)
+    → OnlyInterrupt s (pick p (enteredOf (notedOf s c) (vectorFor c)) (pick q (enteredOf (promotedOf (notedOf s c) c) Vector.MachineCheck) (haltedOf (enteredOf (notedOf s c) (vectorFor c)) Halt.MachineCheck)))
+interrupted-cases s c true q = only-trans (noted-only s c) (entered-only (notedOf s c) (vectorFor c))
+interrupted-cases s c false true =
+    only-trans (noted-only s c) (only-trans (promoted-only (notedOf s c) c) (entered-only (promotedOf (notedOf s c) c) Vector.MachineCheck))
+interrupted-cases s c false false =
+    only-trans (noted-only s c)
+    (only-trans (entered-only (notedOf s c) (vectorFor c)) (halted-only (enteredOf (notedOf s c) (vectorFor c)) Halt.MachineCheck))
+
+-- taken, promoted or halting, an interrupt touches its own registers alone
+pub interrupted-only : (s : State) (c : Cause) → OnlyInterrupt s (interruptedOf s c)
+unfolding interruptedOf
+interrupted-only s c = interrupted-cases s c (bitAt (s .msr) 15) (bitAt (s .msr) 19)

@@ -1,0 +1,8 @@
+-- The demands as theorems.
+pub mod Grow
+pub mod Faults
+pub mod Reaches
+pub mod Demands
+pub mod Clean
+pub mod Sound
+pub mod Accepted

@@ -1,0 +1,268 @@
+-- Demand 1: every byte that a step reads or writes lies inside the lent memory, it changes no other byte, and no other byte decides it. Assumes nothing.
+use Prim.Native.Nat.{ℕ, suc, _+_, _<_, _≤_}
+use native.Mathlib.Omega.{arith}
+use native.Mathlib.Nat.{add-zero}
+use mathlib.Core.Bool.{Bool, true, false, not, _&&_}
+use mathlib.Core.Path.{_≡_, refl, sym, _∙_}
+use mathlib.Core.List.{List, [], _∷_, _++_}
+use mathlib.Core.Logic.{_⊎_, inl, inr, ⊎-elim}
+use lib.Dec.{eqb, lit<}
+use lib.ListN.{length, getD, set, replicate}
+use lib.Seq.{sets, getD-set-other}
+use Rattle.word.specs.Bits.{bitAt}
+use Rattle.word.specs.Width.{bytes}
+use Rattle.word.specs.declared.width.Width.{Width}
+use Rattle.memory.specs.Access.{pick, accessOf}
+use Rattle.memory.specs.Load.{valueAt, loaded, loadOf, fetchOf}
+use Rattle.memory.specs.Store.{bytesOf, written, storedOf, blockAt, clearedOf}
+use Rattle.memory.specs.declared.access.Access.{Access}
+use Rattle.memory.specs.declared.load.Loaded.{Loaded}
+use Rattle.memory.proofs.Laws.{served-inside}
+use Rattle.memory.proofs.Grow.{never, bytes-length}
+use Rattle.insn.specs.Read.{decodeOf}
+use Rattle.insn.specs.declared.instr.Instr.{Instr}
+use Rattle.insn.specs.declared.instr.Decoded.{Decoded}
+use Rattle.insn.specs.declared.instr.LoadStore.{LoadStore}
+use Rattle.insn.specs.declared.instr.CacheOp.{CacheOp}
+use Rattle.machine.specs.State.{gprOf}
+use Rattle.machine.specs.After.{After, plain}
+use Rattle.machine.specs.LoadStore.{offsetEa, indexedEa, loadAt, storeAt, loadStoreOf}
+use Rattle.machine.specs.Cache.{clearAt, cacheOf}
+use Rattle.machine.specs.Interrupt.{enteredOf}
+use Rattle.machine.specs.Timer.{tickedOf, actsOf, actedOf}
+use Rattle.machine.specs.Step.{executeOf, decodedOf, fetchedOf, runningOf, awakeOf, highestOf, interruptibleOf, countedOf, stepOf}
+use Rattle.machine.specs.declared.state.State.{State}
+use Rattle.machine.specs.declared.step.Pending.{Pending}
+use Rattle.promises.specs.Reach.{Span, Use, idle, reads, writes, touched, touchedAt, loadStoreUse, cacheUse, executeUse, decodedUse, fetchedUse, readBy, writtenBy, runningReads, runningWrites, free, executes, readsOf, writesOf, Inside, Misses, Agree}
+
+-- ---- inside
+
+touched-inside : (m a n : ℕ) (k : Access) → accessOf m a n ≡ k → Inside m (touched k a n)
+touched-inside m a n Access.Served e = (served-inside m a n e, tt)
+touched-inside m a n Access.Unaligned e = tt
+touched-inside m a n Access.Outside e = tt
+
+at-inside : (m : List ℕ) (a n : ℕ) → Inside (length m) (touchedAt m a n)
+at-inside m a n = touched-inside (length m) a n (accessOf (length m) a n) refl
+
+both-inside : (n : ℕ) (xs ys : List Span) → Inside n xs → Inside n ys → Inside n (xs ++ ys)
+both-inside n [] ys p q = q
+both-inside n (x ∷ xs) ys p q = (p .0, both-inside n xs ys (p .1) q)
+
+use-inside : (m : List ℕ) (u : Use) → Inside (length m) (readBy m u) × Inside (length m) (writtenBy m u)
+use-inside m idle = (tt, tt)
+use-inside m (reads a n) = (at-inside m a n, tt)
+use-inside m (writes a n) = (tt, at-inside m a n)
+
+picked-inside : (n : ℕ) (b : Bool) (xs : List Span) → Inside n xs → Inside n (pick b xs [])
+picked-inside n true xs p = p
+picked-inside n false xs p = tt
+
+-- no access goes beyond the memory lent
+pub reads-inside : (s : State) (m : List ℕ) (e : ℕ) → Inside (length m) (readsOf s m e)
+unfolding readsOf runningReads
+reads-inside s m e =
+    let t = tickedOf s e in
+    let u = fetchedUse t (fetchOf m (t .iar)) in
+    picked-inside (length m) (executes s e) _
+    (both-inside (length m) (touchedAt m (t .iar) 4) (readBy m u) (at-inside m (t .iar) 4) (use-inside m u .0))
+
+pub writes-inside : (s : State) (m : List ℕ) (e : ℕ) → Inside (length m) (writesOf s m e)
+unfolding writesOf runningWrites
+writes-inside s m e =
+    let t = tickedOf s e in
+    picked-inside (length m) (executes s e) _ (use-inside m (fetchedUse t (fetchOf m (t .iar))) .1)
+
+-- ---- no other byte is changed
+
+sets-other : (bs m : List ℕ) (a k : ℕ) → (k < a) ⊎ (a + length bs ≤ k) → getD (sets m a bs) k 0 ≡ getD m k 0
+sets-other [] m a k h = refl
+sets-other (b ∷ bs) m a k h =
+    sets-other bs (set m a b) (suc a) k (⊎-elim (λ l. inl (omega arith)) (λ r. inr (omega arith)) h)
+    ∙ getD-set-other m a k b 0 (λ e. ⊎-elim (λ l. omega arith) (λ r. omega arith) h)
+
+written-other : (m : List ℕ) (a k : ℕ) (bs : List ℕ) (c : Access) → Misses k (touched c a (length bs)) → getD (written c m a bs) k 0 ≡ getD m k 0
+written-other m a k bs Access.Served h = sets-other bs m a k (h .0)
+written-other m a k bs Access.Unaligned h = refl
+written-other m a k bs Access.Outside h = refl
+
+module _ (s : State) (m : List ℕ) (k : ℕ) where
+  store-other : (w : Width) (rs ea : ℕ) (u : Bool) (ra : ℕ) → Misses k (touchedAt m ea (bytes w)) → getD (storeAt s m w rs ea u ra .mem) k 0 ≡ getD m k 0
+  unfolding storeAt storedOf
+  store-other w rs ea u ra h =
+      let e : length (bytesOf w (gprOf s rs)) ≡ bytes w = bytes-length w (gprOf s rs) in
+      written-other m ea k (bytesOf w (gprOf s rs)) (accessOf (length m) ea (bytes w)) (rw e h)
+
+  load-store-other : (i : LoadStore) → Misses k (writtenBy m (loadStoreUse s i)) → getD (loadStoreOf s m i .mem) k 0 ≡ getD m k 0
+  unfolding loadStoreOf loadAt
+  load-store-other (LoadStore.Load w u rt ra d) h = refl
+  load-store-other (LoadStore.LoadIndexed w rt ra rb) h = refl
+  load-store-other (LoadStore.Store w u rs ra d) h = store-other w rs (offsetEa s ra d) u ra h
+  load-store-other (LoadStore.StoreIndexed w rs ra rb) h = store-other w rs (indexedEa s ra rb) false ra h
+
+  cache-other : (op : CacheOp) (ra rb : ℕ) → Misses k (writtenBy m (cacheUse s op ra rb)) → getD (cacheOf s m op ra rb .mem) k 0 ≡ getD m k 0
+  unfolding cacheOf clearAt clearedOf
+  cache-other CacheOp.Dcbf ra rb h = refl
+  cache-other CacheOp.Dcbi ra rb h = refl
+  cache-other CacheOp.Dcbt ra rb h = refl
+  cache-other CacheOp.Dcbz ra rb h = written-other m (blockAt (indexedEa s ra rb)) k (replicate 32 0) (accessOf (length m) (blockAt (indexedEa s ra rb)) 32) h
+
+  execute-other : (w : ℕ) (i : Instr) → Misses k (writtenBy m (executeUse s i)) → getD (executeOf s m w i .mem) k 0 ≡ getD m k 0
+  unfolding executeOf
+  execute-other w (Instr.Arithmetic i) h = refl
+  execute-other w (Instr.Logical i) h = refl
+  execute-other w (Instr.Compare i) h = refl
+  execute-other w (Instr.Rotate i) h = refl
+  execute-other w (Instr.LoadStore i) h = load-store-other i h
+  execute-other w (Instr.Branch i) h = refl
+  execute-other w (Instr.Trap to ra rb tg) h = refl
+  execute-other w (Instr.System i) h = refl
+  execute-other w (Instr.Cache op hint ra rb) h = cache-other op ra rb h
+
+  decoded-other : (w : ℕ) (d : Decoded) → Misses k (writtenBy m (decodedUse s d)) → getD (decodedOf s m w d .mem) k 0 ≡ getD m k 0
+  decoded-other w (Decoded.Insn i) h = execute-other w i h
+  decoded-other w Decoded.Illegal h = refl
+
+  fetched-other : (l : Loaded) → Misses k (writtenBy m (fetchedUse s l)) → getD (fetchedOf s m l .mem) k 0 ≡ getD m k 0
+  fetched-other (Loaded.Value w) h = decoded-other w (decodeOf w) h
+  fetched-other Loaded.Unaligned h = refl
+  fetched-other Loaded.Outside h = refl
+
+-- ---- whether a step gets to line 6
+
+-- a step by its four tests
+abbrev lines : Bool → Bool → Pending → Bool → State → State → List ℕ → After
+lines halted acts (Pending.Take v) waits s t m = pick halted (pick acts (plain (actedOf t) m) (plain (enteredOf t v) m)) (plain s m)
+lines halted acts Pending.Nothing waits s t m = pick halted (pick acts (plain (actedOf t) m) (pick waits (plain t m) (runningOf t m))) (plain s m)
+
+runs-cases : (h a : Bool) (p : Pending) (w : Bool) (s t : State) (m : List ℕ) → (h && not a && free p && not w) ≡ true → lines h a p w s t m ≡ runningOf t m
+runs-cases true true (Pending.Take v) w s t m e = never (sym e)
+runs-cases true true Pending.Nothing w s t m e = never (sym e)
+runs-cases true false (Pending.Take v) w s t m e = never (sym e)
+runs-cases true false Pending.Nothing true s t m e = never (sym e)
+runs-cases true false Pending.Nothing false s t m e = refl
+runs-cases false a (Pending.Take v) w s t m e = never (sym e)
+runs-cases false a Pending.Nothing w s t m e = never (sym e)
+
+-- what a step leaves that does not get there, whatever the memory
+abbrev Rests : (List ℕ → After) → Type 0
+Rests f = (m n : List ℕ) → (f m .mem ≡ m) × (f n .st ≡ f m .st)
+
+rests-cases : (h a : Bool) (p : Pending) (w : Bool) (s t : State) → (h && not a && free p && not w) ≡ false → Rests (lines h a p w s t)
+rests-cases true true (Pending.Take v) w s t e m n = (refl, refl)
+rests-cases true true Pending.Nothing w s t e m n = (refl, refl)
+rests-cases true false (Pending.Take v) w s t e m n = (refl, refl)
+rests-cases true false Pending.Nothing true s t e m n = (refl, refl)
+rests-cases true false Pending.Nothing false s t e m n = never e
+rests-cases false a (Pending.Take v) w s t e m n = (refl, refl)
+rests-cases false a Pending.Nothing w s t e m n = (refl, refl)
+
+module _ (s : State) (e : ℕ) where
+  interruptible-lines : (a h : Bool) (p : Pending) (m : List ℕ)
+      → pick h (pick a (plain (actedOf (tickedOf s e)) m) (interruptibleOf (tickedOf s e) m p)) (plain s m) ≡ lines h a p (bitAt (tickedOf s e .msr) 13) s (tickedOf s e) m
+  unfolding awakeOf
+  interruptible-lines a h (Pending.Take v) m = refl
+  interruptible-lines a h Pending.Nothing m = refl
+
+  step-lines : (m : List ℕ) → stepOf s m e ≡ lines (eqb (s .halt) 0) (actsOf s e) (highestOf (tickedOf s e) e) (bitAt (tickedOf s e .msr) 13) s (tickedOf s e) m
+  unfolding stepOf countedOf
+  step-lines m = interruptible-lines (actsOf s e) (eqb (s .halt) 0) (highestOf (tickedOf s e) e) m
+
+  step-runs : executes s e ≡ true → (m : List ℕ) → stepOf s m e ≡ runningOf (tickedOf s e) m
+  unfolding executes
+  step-runs h m = step-lines m ∙ runs-cases (eqb (s .halt) 0) (actsOf s e) (highestOf (tickedOf s e) e) (bitAt (tickedOf s e .msr) 13) s (tickedOf s e) m h
+
+  step-rests : executes s e ≡ false → Rests (λ m. stepOf s m e)
+  unfolding executes
+  step-rests h m n =
+      let r = rests-cases (eqb (s .halt) 0) (actsOf s e) (highestOf (tickedOf s e) e) (bitAt (tickedOf s e .msr) 13) s (tickedOf s e) h m n in
+      rw (step-lines m, step-lines n) r
+
+other-cases : (s : State) (m : List ℕ) (e k : ℕ) (b : Bool) → executes s e ≡ b → Misses k (pick b (runningWrites (tickedOf s e) m) [])
+    → getD (stepOf s m e .mem) k 0 ≡ getD m k 0
+unfolding runningWrites runningOf
+other-cases s m e k true r h = rw (step-runs s e r m) (fetched-other (tickedOf s e) m k (fetchOf m (tickedOf s e .iar)) h)
+other-cases s m e k false r h = rw (step-rests s e r m m .0)
+
+-- a byte that the step does not write stays as it was
+pub writes-only : (s : State) (m : List ℕ) (e k : ℕ) → Misses k (writesOf s m e) → getD (stepOf s m e .mem) k 0 ≡ getD m k 0
+unfolding writesOf
+writes-only s m e k h = other-cases s m e k (executes s e) refl h
+
+-- ---- no other byte is looked at
+
+value-same : (w : Width) (m n : List ℕ) (a : ℕ) → ((k : ℕ) → k < bytes w → getD n (a + k) 0 ≡ getD m (a + k) 0) → valueAt w n a ≡ valueAt w m a
+unfolding valueAt
+value-same Width.Byte m n a h = rw add-zero at (h 0 (lit< tt))
+value-same Width.Half m n a h =
+    let h0 : getD n a 0 ≡ getD m a 0 = rw add-zero at (h 0 (lit< tt)) in
+    rw (h0, h 1 (lit< tt))
+value-same Width.Word m n a h =
+    let h0 : getD n a 0 ≡ getD m a 0 = rw add-zero at (h 0 (lit< tt)) in
+    rw (h0, h 1 (lit< tt), h 2 (lit< tt), h 3 (lit< tt))
+
+loaded-same : (w : Width) (m n : List ℕ) (a : ℕ) (k : Access) → Agree m n (touched k a (bytes w)) → loaded k (valueAt w n a) ≡ loaded k (valueAt w m a)
+loaded-same w m n a Access.Served h = rw (value-same w m n a (h .0))
+loaded-same w m n a Access.Unaligned h = refl
+loaded-same w m n a Access.Outside h = refl
+
+agree-split : (m n : List ℕ) (xs ys : List Span) → Agree m n (xs ++ ys) → Agree m n xs × Agree m n ys
+agree-split m n [] ys h = (tt, h)
+agree-split m n (x ∷ xs) ys h = let r = agree-split m n xs ys (h .1) in ((h .0, r .0), r .1)
+
+module _ (m n : List ℕ) (l : length n ≡ length m) where
+  load-same : (a : ℕ) (w : Width) → Agree m n (touchedAt m a (bytes w)) → loadOf n a w ≡ loadOf m a w
+  unfolding loadOf
+  load-same a w h = rw l (loaded-same w m n a (accessOf (length m) a (bytes w)) h)
+
+  module _ (s : State) where
+    load-store-same : (i : LoadStore) → Agree m n (readBy m (loadStoreUse s i)) → loadStoreOf s n i .st ≡ loadStoreOf s m i .st
+    unfolding loadStoreOf loadAt storeAt
+    load-store-same (LoadStore.Load w u rt ra d) h = rw (load-same (offsetEa s ra d) w h)
+    load-store-same (LoadStore.LoadIndexed w rt ra rb) h = rw (load-same (indexedEa s ra rb) w h)
+    load-store-same (LoadStore.Store w u rs ra d) h = rw l
+    load-store-same (LoadStore.StoreIndexed w rs ra rb) h = rw l
+
+    cache-same : (op : CacheOp) (ra rb : ℕ) → cacheOf s n op ra rb .st ≡ cacheOf s m op ra rb .st
+    unfolding cacheOf clearAt
+    cache-same CacheOp.Dcbf ra rb = refl
+    cache-same CacheOp.Dcbi ra rb = refl
+    cache-same CacheOp.Dcbt ra rb = refl
+    cache-same CacheOp.Dcbz ra rb = rw l
+
+    execute-same : (w : ℕ) (i : Instr) → Agree m n (readBy m (executeUse s i)) → executeOf s n w i .st ≡ executeOf s m w i .st
+    unfolding executeOf
+    execute-same w (Instr.Arithmetic i) h = refl
+    execute-same w (Instr.Logical i) h = refl
+    execute-same w (Instr.Compare i) h = refl
+    execute-same w (Instr.Rotate i) h = refl
+    execute-same w (Instr.LoadStore i) h = load-store-same i h
+    execute-same w (Instr.Branch i) h = refl
+    execute-same w (Instr.Trap to ra rb tg) h = refl
+    execute-same w (Instr.System i) h = refl
+    execute-same w (Instr.Cache op hint ra rb) h = cache-same op ra rb
+
+    decoded-same : (w : ℕ) (d : Decoded) → Agree m n (readBy m (decodedUse s d)) → decodedOf s n w d .st ≡ decodedOf s m w d .st
+    decoded-same w (Decoded.Insn i) h = execute-same w i h
+    decoded-same w Decoded.Illegal h = refl
+
+    fetched-same : (f : Loaded) → Agree m n (readBy m (fetchedUse s f)) → fetchedOf s n f .st ≡ fetchedOf s m f .st
+    fetched-same (Loaded.Value w) h = decoded-same w (decodeOf w) h
+    fetched-same Loaded.Unaligned h = refl
+    fetched-same Loaded.Outside h = refl
+
+    running-same : Agree m n (runningReads s m) → runningOf s n .st ≡ runningOf s m .st
+    unfolding runningReads runningOf fetchOf
+    running-same h =
+        let both = agree-split m n (touchedAt m (s .iar) 4) (readBy m (fetchedUse s (fetchOf m (s .iar)))) h in
+        rw (load-same (s .iar) Width.Word (both .0)) (fetched-same (fetchOf m (s .iar)) (both .1))
+
+same-cases : (m n : List ℕ) → length n ≡ length m → (s : State) (e : ℕ) (b : Bool) → executes s e ≡ b
+    → Agree m n (pick b (runningReads (tickedOf s e) m) []) → stepOf s n e .st ≡ stepOf s m e .st
+same-cases m n l s e true r h = rw (step-runs s e r m, step-runs s e r n) (running-same m n l (tickedOf s e) h)
+same-cases m n l s e false r h = step-rests s e r m n .1
+
+-- another memory of that length with the same bytes there gives the same state
+pub reads-only : (s : State) (m n : List ℕ) (e : ℕ) → length n ≡ length m → Agree m n (readsOf s m e) → stepOf s n e .st ≡ stepOf s m e .st
+unfolding readsOf
+reads-only s m n e l h = same-cases m n l s e (executes s e) refl h

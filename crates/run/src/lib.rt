@@ -1,0 +1,3 @@
+// Runs: the operations on a core that a bench uses, with every refusal.
+pub mod outcome; // outcome.rt: what is answered, and what is refused
+pub mod run; // run.rt: the run and the single step

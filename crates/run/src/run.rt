@@ -1,0 +1,103 @@
+// The run and the single step.
+ghost use mathlib.Core.Path.{_≡_};
+ghost use lib.ListN.{getD};
+ghost use Rattle.run.specs.Run.{runOf};
+ghost use Rattle.run.specs.Outcome.{refusedWith, accepted, runOutcome, runMemory, stepOutcome, stepMemory};
+use crate::outcome::Outcome;
+use crate::outcome::run_refusal;
+use crate::outcome::step_refusal;
+use machine::refusal::Refusal;
+use machine::refusal::accepts;
+use machine::state::State;
+
+// What the loop breaks with: the halt code, and the count of steps with it.
+struct Stop {
+    halt: u32,
+    steps: u32,
+}
+
+// The event byte of step i: 0 past the list's end.
+fn event_at(events: &[u8], i: u32) -> u8
+    ensures { λ r. ⌜ r ≡ getD (now (events .entry)) i 0 ⌝ }
+{
+    let k = i as usize;
+    if k < events.len() { events[k] } else { 0 }
+}
+
+// Steps until one halts or the budget is used.
+fn accepted_run(start: State, mem: &mut [u8], events: &[u8], budget: u32) -> Outcome
+    ensures { λ r. ⌜ (r ≡ accepted (runOf budget 0 (now (events .entry)) start (now (mem .entry)))) × (now (mem .exit) ≡ runOf budget 0 (now (events .entry)) start (now (mem .entry)) .mem) ⌝ }
+{
+    let mut s = start;
+    let mut i = 0;
+    let stop = loop {
+        if budget <= i {
+            break Stop {
+                halt: s.halt,
+                steps: i,
+            };
+        }
+        if s.halt != 0 {
+            break Stop {
+                halt: s.halt,
+                steps: i,
+            };
+        }
+        s = s.step(mem, event_at(events, i));
+        i += 1;
+    };
+    Outcome {
+        refusal: Refusal::None,
+        state: s,
+        halt: stop.halt,
+        steps: stop.steps,
+    }
+}
+
+// The state as given, and no steps.
+fn refused(state: State, refusal: Refusal) -> Outcome
+    ensures { λ r. ⌜ r ≡ refusedWith state refusal ⌝ }
+{
+    Outcome {
+        refusal,
+        state,
+        halt: state.halt,
+        steps: 0,
+    }
+}
+
+pub fn run(state: State, mem: &mut [u8], events: &[u8], budget: u32) -> Outcome
+    ensures { λ r. ⌜ (r ≡ runOutcome state (now (mem .entry)) (now (events .entry)) budget) × (now (mem .exit) ≡ runMemory state (now (mem .entry)) (now (events .entry)) budget) ⌝ }
+{
+    let refusal = run_refusal(state, &mem[..], events, budget);
+    if accepts(refusal) {
+        accepted_run(state, mem, events, budget)
+    } else {
+        refused(state, refusal)
+    }
+}
+
+// One step: a run of one, with one event.
+pub fn step(state: State, mem: &mut [u8], event: u8) -> Outcome
+    ensures { λ r. ⌜ (r ≡ stepOutcome state (now (mem .entry)) event) × (now (mem .exit) ≡ stepMemory state (now (mem .entry)) event) ⌝ }
+{
+    let refusal = step_refusal(state, &mem[..], event);
+    if !accepts(refusal) {
+        return refused(state, refusal);
+    }
+    if state.halt != 0 {
+        return Outcome {
+            refusal: Refusal::None,
+            state,
+            halt: state.halt,
+            steps: 0,
+        };
+    }
+    let next = state.step(mem, event);
+    Outcome {
+        refusal: Refusal::None,
+        state: next,
+        halt: next.halt,
+        steps: 1,
+    }
+}
