@@ -14,12 +14,13 @@ use Rattle.memory.specs.Load.{valueAt}
 use Rattle.machine.specs.declared.state.State.{State}
 use Rattle.machine.specs.declared.refusal.Refusal.{Refusal}
 use Rattle.machine.specs.Refusal.{acceptsOf}
-use Rattle.machine.specs.Register.{refusalOf}
+use Rattle.machine.specs.Register.{refusalOf, startRefusal}
 use Rattle.capture.specs.Words.{wordsAt, wordBytes, wordsOf}
 use Rattle.capture.specs.Read.{sizeOf, stateIn, formedOf, readRefusal, readOf, partOf}
 use Rattle.capture.specs.Write.{trailerOf, captureOf, writeRefusal, writtenOf, outOf}
 use Rattle.capture.proofs.Laws.{state-words, state-bytes, capture-length}
-use Rattle.capture.proofs.Checks.{Formed, sized-bounds, read-accepts, write-accepts}
+use Rattle.capture.proofs.Checks.{Formed, read-accepts, write-accepts}
+use Rattle.memory.proofs.Laws.{sized-bounds}
 use Rattle.capture.proofs.Codec.{Below, words-in, words-of-bytes, bytes-of-words, words-length, state-of-words, words-of-state}
 
 -- the trailer is what `formedOf` looks for
@@ -87,7 +88,7 @@ module _ (s : State) (m : List ℕ) (g : length (s .gpr) ≡ 16) (w : Below (2 ^
   capture-part = rw (capture-size, append-assoc) (take-at m _ (length m) refl)
 
   capture-refusal : refusalOf s ≡ Refusal.None → readRefusal (captureOf s m) ≡ Refusal.None
-  unfolding readRefusal
+  unfolding readRefusal startRefusal
   capture-refusal r = rw (capture-formed, capture-size, sized, capture-state, r)
 
   pub capture-reads : refusalOf s ≡ Refusal.None → (readOf (captureOf s m) ≡ record { refusal = Refusal.None; state = s }) × (partOf (captureOf s m) ≡ m)
@@ -136,7 +137,7 @@ module _ (f : List ℕ) (ok : readRefusal f ≡ Refusal.None) where
       (take-all (sizeOf f + 144 + 12) f (omega arith))
 
   read-accepted : (n : ℕ) → length f ≤ n → writeRefusal (stateIn f) (sizeOf f) n ≡ Refusal.None
-  unfolding writeRefusal
+  unfolding writeRefusal startRefusal
   read-accepted n h =
       let a = read-accepts f (ap acceptsOf ok) in
       rw (a .sized, a .state, le-leb (sizeOf f + 156) n (omega arith))

@@ -7,7 +7,7 @@ use Rattle.memory.specs.Access.{sizedOf}
 use Rattle.memory.specs.Load.{valueAt}
 use Rattle.memory.specs.Store.{bytesOf}
 use Rattle.machine.specs.declared.refusal.Refusal.{Refusal}
-use Rattle.machine.specs.Register.{cleanOf, soundOf, refusalOf}
+use Rattle.machine.specs.Register.{cleanOf, soundOf, refusalOf, startRefusal}
 use Rattle.capture.specs.Words.{wordsAt, wordBytes, wordsOf, stateOf}
 use Rattle.capture.specs.Read.{stateIn, formedOf, readRefusal, readOf, partOf}
 use Rattle.capture.specs.Write.{captureOf, writeRefusal, outOf}
@@ -23,10 +23,10 @@ file = memory ++ replicate 144 0 ++ trailer
 
 -- it reads, and no byte of it is lost
 pub scope-reads : (readOf file ≡ record { refusal = Refusal.None; state = stateOf (replicate 36 0) }) × (partOf file ≡ memory)
-unfolding readOf partOf readRefusal formedOf stateIn stateOf wordsAt valueAt sizedOf refusalOf soundOf cleanOf
+unfolding readOf partOf readRefusal formedOf stateIn stateOf wordsAt valueAt sizedOf startRefusal refusalOf soundOf cleanOf
 scope-reads = (refl, refl)
 
 -- it is what the writer makes of its parts
 pub scope-writes : outOf (stateOf (replicate 36 0)) memory (replicate 188 0xFF) ≡ file
-unfolding outOf writeRefusal captureOf wordsOf wordBytes bytesOf stateOf sizedOf refusalOf soundOf cleanOf
+unfolding outOf writeRefusal captureOf wordsOf wordBytes bytesOf stateOf sizedOf startRefusal refusalOf soundOf cleanOf
 scope-writes = refl

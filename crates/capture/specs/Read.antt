@@ -5,12 +5,12 @@ use mathlib.Core.List.{List, []}
 use lib.Dec.{leb, eqb}
 use lib.ListN.{length, take, replicate}
 use Rattle.word.specs.declared.width.Width.{Width}
-use Rattle.memory.specs.Access.{pick, sizedOf}
+use Rattle.memory.specs.Access.{pick}
 use Rattle.memory.specs.Load.{valueAt}
 use Rattle.machine.specs.declared.state.State.{State}
 use Rattle.machine.specs.declared.refusal.Refusal.{Refusal}
 use Rattle.machine.specs.Refusal.{acceptsOf, unless, orElse}
-use Rattle.machine.specs.Register.{refusalOf}
+use Rattle.machine.specs.Register.{startRefusal}
 use Rattle.capture.specs.Words.{wordsAt, stateOf}
 use Rattle.capture.specs.declared.read.Read.{Read}
 
@@ -32,7 +32,7 @@ formedOf f =
 
 -- reading checks 7, 1, 2, 3
 unfoldable pub readRefusal : List ℕ → Refusal
-readRefusal f = orElse (unless (formedOf f) Refusal.Capture) (orElse (unless (sizedOf (sizeOf f)) Refusal.Memory) (refusalOf (stateIn f)))
+readRefusal f = orElse (unless (formedOf f) Refusal.Capture) (startRefusal (stateIn f) (sizeOf f))
 
 -- the refusal, and the state that the file holds; refused, a zeroed state
 unfoldable pub readOf : List ℕ → Read

@@ -3,11 +3,11 @@ use Prim.Native.Nat.{ℕ, _+_}
 use mathlib.Core.List.{List, [], _∷_, _++_}
 use lib.Dec.{leb}
 use lib.ListN.{length, drop}
-use Rattle.memory.specs.Access.{pick, sizedOf}
+use Rattle.memory.specs.Access.{pick}
 use Rattle.machine.specs.declared.state.State.{State}
 use Rattle.machine.specs.declared.refusal.Refusal.{Refusal}
 use Rattle.machine.specs.Refusal.{acceptsOf, unless, orElse}
-use Rattle.machine.specs.Register.{refusalOf}
+use Rattle.machine.specs.Register.{startRefusal}
 use Rattle.capture.specs.Words.{wordBytes, wordsOf}
 use Rattle.capture.specs.declared.write.Written.{Written}
 
@@ -21,7 +21,7 @@ captureOf s m = m ++ wordBytes (wordsOf s) ++ wordBytes (trailerOf (length m))
 
 -- writing m bytes of memory into n of output checks 1, 2, 3, 8
 unfoldable pub writeRefusal : State → ℕ → ℕ → Refusal
-writeRefusal s m n = orElse (unless (sizedOf m) Refusal.Memory) (orElse (refusalOf s) (unless (leb (m + 156) n) Refusal.Output))
+writeRefusal s m n = orElse (startRefusal s m) (unless (leb (m + 156) n) Refusal.Output)
 
 -- the refusal, and how many bytes were written; refused, none
 unfoldable pub writtenOf : State → List ℕ → List ℕ → Written

@@ -6,7 +6,6 @@ use crate::words::state_of_words;
 use machine::refusal::Refusal;
 use machine::refusal::accepts;
 use machine::state::State;
-use memory::access::sized;
 use memory::load::word_at;
 
 pub struct Read {
@@ -35,10 +34,7 @@ fn read_refusal(file: &[u8]) -> Refusal
         return Refusal::Capture;
     }
     let size = file.len() - 156;
-    if !sized(size) {
-        return Refusal::Memory;
-    }
-    state_at(file, size).refusal()
+    state_at(file, size).start_refusal(size)
 }
 
 // The state, or the refusal and a zeroed state.

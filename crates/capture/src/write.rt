@@ -10,7 +10,6 @@ use crate::words::put_words;
 use machine::refusal::Refusal;
 use machine::refusal::accepts;
 use machine::state::State;
-use memory::access::sized;
 
 pub struct Written {
     pub refusal: Refusal,
@@ -21,10 +20,7 @@ pub struct Written {
 fn write_refusal(state: State, size: usize, room: usize) -> Refusal
     ensures { λ r. ⌜ r ≡ writeRefusal state size room ⌝ }
 {
-    if !sized(size) {
-        return Refusal::Memory;
-    }
-    let start = state.refusal();
+    let start = state.start_refusal(size);
     if !accepts(start) {
         return start;
     }

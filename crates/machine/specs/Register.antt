@@ -4,7 +4,8 @@ use mathlib.Core.Bool.{Bool, _&&_}
 use lib.Bits.{bitAnd}
 use lib.Dec.{leb, eqb}
 use Rattle.word.specs.Logical.{inv}
-use Rattle.memory.specs.Access.{pick}
+use Rattle.memory.specs.Access.{pick, sizedOf}
+use Rattle.machine.specs.Refusal.{unless, orElse}
 use Rattle.machine.specs.declared.state.State.{State}
 use Rattle.machine.specs.declared.state.Reg.{Reg}
 use Rattle.machine.specs.declared.refusal.Refusal.{Refusal}
@@ -68,3 +69,7 @@ soundOf s =
 -- an IAR that is no multiple of 4, then a reserved bit or a halt code over 5
 unfoldable pub refusalOf : State → Refusal
 refusalOf s = pick (eqb (s .iar % 4) 0) (pick (soundOf s) Refusal.None Refusal.Reserved) Refusal.Iar
+
+-- 1, 2, 3: what a run, a step and a capture ask of a state and m bytes of memory
+unfoldable pub startRefusal : State → ℕ → Refusal
+startRefusal s m = orElse (unless (sizedOf m) Refusal.Memory) (refusalOf s)

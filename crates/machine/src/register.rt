@@ -1,9 +1,10 @@
 // What each register holds and which of its bits are defined.
 ghost use mathlib.Core.Path.{_≡_};
-ghost use Rattle.machine.specs.Register.{definedOf, contentsOf, cleanOf, soundOf, refusalOf};
+ghost use Rattle.machine.specs.Register.{definedOf, contentsOf, cleanOf, soundOf, refusalOf, startRefusal};
 use crate::refusal::Refusal;
 use crate::state::Reg;
 use crate::state::State;
+use memory::access::sized;
 
 // The bits that a register has; all others are reserved.
 pub fn defined(r: Reg) -> u32
@@ -97,6 +98,17 @@ impl State {
             Refusal::None
         } else {
             Refusal::Reserved
+        }
+    }
+
+    // The refusal that this state gets with so many bytes of memory: 1, 2, 3.
+    pub fn start_refusal(self, size: usize) -> Refusal
+        ensures { λ n. ⌜ n ≡ startRefusal self size ⌝ }
+    {
+        if sized(size) {
+            self.refusal()
+        } else {
+            Refusal::Memory
         }
     }
 }

@@ -14,10 +14,7 @@ use Rattle.word.specs.Width.{bytes}
 use Rattle.memory.specs.Access.{pick, accessOf, reachesPast}
 use Rattle.memory.specs.Load.{valueAt, loaded, loadOf, fetchOf}
 use Rattle.memory.specs.Store.{bytesOf, written, storedOf, blockAt, clearedOf}
-use Rattle.memory.proofs.Laws.{served-inside}
-
-pub never : {A : Type 0} → true ≡ false → A
-never e = let z : _≡_ {A = ℕ} 0 1 = cc in absurd (omega arith)
+use Rattle.memory.proofs.Laws.{never, served-inside}
 
 leb-grow : (k : ℕ) (m x : List ℕ) → leb k (length m) ≡ true → leb k (length (m ++ x)) ≡ true
 leb-grow k m x t = le-leb k (length (m ++ x)) (omega (arith, leb-true k (length m) t, length-append m x))

@@ -20,7 +20,7 @@ use Rattle.insn.specs.declared.instr.LoadStore.{LoadStore}
 use Rattle.insn.specs.declared.instr.CacheOp.{CacheOp}
 use Rattle.machine.specs.State.{gprOf}
 use Rattle.machine.specs.Refusal.{unless, orElse}
-use Rattle.machine.specs.Register.{refusalOf}
+use Rattle.machine.specs.Register.{refusalOf, startRefusal}
 use Rattle.machine.specs.After.{After}
 use Rattle.machine.specs.LoadStore.{loadAt, storeAt, loadStoreOf}
 use Rattle.machine.specs.Cache.{clearAt, cacheOf}
@@ -31,7 +31,7 @@ use Rattle.machine.specs.declared.interrupt.Cause.{Cause}
 use Rattle.machine.specs.declared.step.Pending.{Pending}
 use Rattle.machine.specs.declared.refusal.Refusal.{Refusal}
 use Rattle.run.specs.Run.{Ran, runOf}
-use Rattle.run.specs.Outcome.{startRefusal, runRefusal}
+use Rattle.run.specs.Outcome.{runRefusal}
 use Rattle.promises.proofs.Sound.{Sound, picked, accepted-sound, sound-accepted, next-sound, entered-sound, interrupted-sound, ticked-sound, acted-sound, arithmetic-sound, logical-sound, compare-sound, rotate-sound, branch-sound, trap-sound, system-sound, loaded-sound, stored-sound, cleared-sound}
 
 -- from a state and a memory to others: a sound state stays sound, and the memory keeps its length
@@ -147,7 +147,7 @@ module _ (n i : ℕ) (ev : List ℕ) (s : State) (m : List ℕ) where
   run-length = run-left n i ev s m .mem
 
   -- a state and a memory that are accepted are accepted as a run left them
-  pub start-again : startRefusal s m ≡ Refusal.None → startRefusal (runOf n i ev s m .st) (runOf n i ev s m .mem) ≡ Refusal.None
+  pub start-again : startRefusal s (length m) ≡ Refusal.None → startRefusal (runOf n i ev s m .st) (length (runOf n i ev s m .mem)) ≡ Refusal.None
   unfolding startRefusal
   start-again h =
       let e : refusalOf s ≡ Refusal.None = second-none (unless (sizedOf (length m)) Refusal.Memory) (refusalOf s) h in
@@ -158,5 +158,5 @@ pub run-again : (n : ℕ) (ev : List ℕ) (s : State) (m : List ℕ) (ev′ : Li
     → (let r = runOf n 0 ev s m in runRefusal (r .st) (r .mem) ev′ budget ≡ Refusal.None)
 unfolding runRefusal
 run-again n ev s m ev′ budget h =
-    let e : startRefusal s m ≡ Refusal.None = first-none (startRefusal s m) _ h in
+    let e : startRefusal s (length m) ≡ Refusal.None = first-none (startRefusal s (length m)) _ h in
     rw (start-again n 0 ev s m e) (rw e at h)

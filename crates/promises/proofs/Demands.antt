@@ -9,12 +9,12 @@ use lib.Dec.{eqb, leb}
 use lib.ListN.{getD, length}
 use Rattle.memory.specs.Access.{pick, sizedOf}
 use Rattle.machine.specs.Refusal.{acceptsOf, unless, orElse}
-use Rattle.machine.specs.Register.{soundOf, refusalOf}
+use Rattle.machine.specs.Register.{soundOf, refusalOf, startRefusal}
 use Rattle.machine.specs.Step.{stepOf}
 use Rattle.machine.specs.declared.state.State.{State}
 use Rattle.machine.specs.declared.refusal.Refusal.{Refusal}
 use Rattle.run.specs.Run.{Ran, runOf, pastOf}
-use Rattle.run.specs.Outcome.{eventsGood, startRefusal, eventsRefusal, runRefusal, stepRefusal, refusedWith, accepted, runOutcome, runMemory, stepOutcome, stepMemory}
+use Rattle.run.specs.Outcome.{eventsGood, eventsRefusal, runRefusal, stepRefusal, refusedWith, accepted, runOutcome, runMemory, stepOutcome, stepMemory}
 use Rattle.run.proofs.Laws.{run-halted}
 use Rattle.promises.proofs.Grow.{grownRun, run-grow, run-longer}
 

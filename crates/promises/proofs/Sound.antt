@@ -15,7 +15,7 @@ use Rattle.word.specs.declared.shift.Shifted.{Shifted}
 use Rattle.memory.specs.Access.{pick}
 use Rattle.memory.specs.declared.access.Access.{Access}
 use Rattle.memory.specs.declared.load.Loaded.{Loaded}
-use Rattle.memory.proofs.Grow.{never}
+use Rattle.memory.proofs.Laws.{never}
 use Rattle.insn.specs.declared.instr.Arithmetic.{Arithmetic}
 use Rattle.insn.specs.declared.instr.Logical.{Logical}
 use Rattle.insn.specs.declared.instr.Compare.{Compare}

@@ -4,9 +4,9 @@ use mathlib.Core.Bool.{Bool, true, _&&_}
 use mathlib.Core.List.{List, [], _∷_}
 use lib.Dec.{leb, ltb}
 use lib.ListN.{length}
-use Rattle.memory.specs.Access.{pick, sizedOf}
+use Rattle.memory.specs.Access.{pick}
 use Rattle.machine.specs.Refusal.{acceptsOf, unless, orElse}
-use Rattle.machine.specs.Register.{refusalOf}
+use Rattle.machine.specs.Register.{startRefusal}
 use Rattle.machine.specs.declared.state.State.{State}
 use Rattle.machine.specs.declared.refusal.Refusal.{Refusal}
 use Rattle.run.specs.Run.{Ran, runOf}
@@ -17,21 +17,17 @@ unfoldable pub eventsGood : List ℕ → Bool
 eventsGood [] = true
 eventsGood (e ∷ es) = ltb e 64 && eventsGood es
 
--- 1, 2, 3: the memory's length, then the state
-unfoldable pub startRefusal : State → List ℕ → Refusal
-startRefusal s m = orElse (unless (sizedOf (length m)) Refusal.Memory) (refusalOf s)
-
 -- 5: over 1,048,576 bytes, or a byte of 64 or more
 unfoldable pub eventsRefusal : List ℕ → Refusal
 eventsRefusal ev = unless (leb (length ev) 1048576 && eventsGood ev) Refusal.Events
 
 -- a run checks 1, 2, 3, 4, 5
 unfoldable pub runRefusal : State → List ℕ → List ℕ → ℕ → Refusal
-runRefusal s m ev budget = orElse (startRefusal s m) (orElse (unless (leb budget 1048576) Refusal.Budget) (eventsRefusal ev))
+runRefusal s m ev budget = orElse (startRefusal s (length m)) (orElse (unless (leb budget 1048576) Refusal.Budget) (eventsRefusal ev))
 
 -- a single step checks 1, 2, 3, 5, its event being a list of one
 unfoldable pub stepRefusal : State → List ℕ → ℕ → Refusal
-stepRefusal s m e = orElse (startRefusal s m) (eventsRefusal (e ∷ []))
+stepRefusal s m e = orElse (startRefusal s (length m)) (eventsRefusal (e ∷ []))
 
 -- the state as given and no steps
 abbrev pub refusedWith : State → Refusal → Outcome

@@ -1,10 +1,9 @@
 // What a run and a single step answer, refusals first.
 ghost use mathlib.Core.Path.{_≡_};
-ghost use Rattle.run.specs.Outcome.{eventsGood, startRefusal, eventsRefusal, runRefusal, stepRefusal};
+ghost use Rattle.run.specs.Outcome.{eventsGood, eventsRefusal, runRefusal, stepRefusal};
 use machine::refusal::Refusal;
 use machine::refusal::accepts;
 use machine::state::State;
-use memory::access::sized;
 
 pub struct Outcome {
     pub refusal: Refusal,
@@ -27,17 +26,6 @@ fn events_good(events: &[u8]) -> bool
     true
 }
 
-// Refusals 1, 2 and 3.
-fn start_refusal(state: State, mem: &[u8]) -> Refusal
-    ensures { λ r. ⌜ r ≡ startRefusal state (now (mem .entry)) ⌝ }
-{
-    if sized(mem.len()) {
-        state.refusal()
-    } else {
-        Refusal::Memory
-    }
-}
-
 // Refusal 5.
 fn events_refusal(events: &[u8]) -> Refusal
     ensures { λ r. ⌜ r ≡ eventsRefusal (now (events .entry)) ⌝ }
@@ -53,7 +41,7 @@ fn events_refusal(events: &[u8]) -> Refusal
 pub fn run_refusal(state: State, mem: &[u8], events: &[u8], budget: u32) -> Refusal
     ensures { λ r. ⌜ r ≡ runRefusal state (now (mem .entry)) (now (events .entry)) budget ⌝ }
 {
-    let start = start_refusal(state, mem);
+    let start = state.start_refusal(mem.len());
     if !accepts(start) {
         return start;
     }
@@ -67,7 +55,7 @@ pub fn run_refusal(state: State, mem: &[u8], events: &[u8], budget: u32) -> Refu
 pub fn step_refusal(state: State, mem: &[u8], event: u8) -> Refusal
     ensures { λ r. ⌜ r ≡ stepRefusal state (now (mem .entry)) event ⌝ }
 {
-    let start = start_refusal(state, mem);
+    let start = state.start_refusal(mem.len());
     if !accepts(start) {
         return start;
     }

@@ -1,6 +1,7 @@
 -- `capture::write::write` meets its contract: what is accepted fits. Assumes nothing.
 use Rattle.capture.specs.Write.{writtenOf, outOf}
-use Rattle.capture.proofs.Checks.{write-accepts, sized-bounds}
+use Rattle.capture.proofs.Checks.{write-accepts}
+use Rattle.memory.proofs.Laws.{sized-bounds}
 use mathlib.Core.Path.{refl, sym, _∙_}
 use borrow.Author.Needs.{needs}
 use Rattle.capture.proofs.write.write.Statement.{statement}

@@ -1,7 +1,9 @@
 -- `capture::write::write_refusal` meets its contract: the tests in order. Assumes nothing.
 use Rattle.capture.specs.Write.{writeRefusal}
-use Rattle.capture.proofs.Checks.{sized-bounds}
-use mathlib.Core.Path.{sym, _∙_}
+use Rattle.memory.proofs.Laws.{sized-bounds}
+use mathlib.Core.Path.{sym, ap, _∙_}
+use Rattle.machine.specs.Refusal.{acceptsOf}
+use Rattle.machine.proofs.Refusals.{start-accepts}
 use borrow.Author.Tests.{not-true, not-false, le-leb, lt-leb}
 use borrow.Author.Needs.{needs}
 use Rattle.capture.proofs.write.write_refusal.Statement.{statement}
@@ -13,10 +15,11 @@ write-refusal-spec =
     tie.close
     (tie.spec
     (λ c κs. search needs)
-    (λ c. rw (sym (c .before .sized .ensures) ∙ not-true _ (c .if1 .taken)))
     (λ c κs. search needs)
-    (λ c κs. search needs)
-    (λ c. rw (sym (c .before .before .before .before .sized .ensures) ∙ not-false _ (c .before .before .before .if1 .left), ← (c .before .before .refusal .ensures), sym (c .before .accepts .ensures) ∙ not-true _ (c .if2 .taken)))
-    (λ c. let h = sized-bounds (c .before .before .before .before .before .args .size) (sym (c .before .before .before .before .sized .ensures) ∙ not-false _ (c .before .before .before .if1 .left)) in search needs)
-    (λ c. rw (sym (c .before .before .before .before .before .sized .ensures) ∙ not-false _ (c .before .before .before .before .if1 .left), ← (c .before .before .before .refusal .ensures), sym (c .before .before .accepts .ensures) ∙ not-false _ (c .before .if2 .left), le-leb _ _ (c .if3 .taken)))
-    (λ c. rw (sym (c .before .before .before .before .before .sized .ensures) ∙ not-false _ (c .before .before .before .before .if1 .left), ← (c .before .before .before .refusal .ensures), sym (c .before .before .accepts .ensures) ∙ not-false _ (c .before .if2 .left), lt-leb _ _ (c .if3 .left))))
+    (λ c. rw (← (c .before .before .start-refusal .ensures), sym (c .before .accepts .ensures) ∙ not-true _ (c .if1 .taken)))
+    (λ c.
+    let a = start-accepts (c .before .before .before .args .state) (c .before .before .before .args .size) (ap acceptsOf (sym (c .before .before .start-refusal .ensures)) ∙ sym (c .before .accepts .ensures) ∙ not-false _ (c .if1 .left)) in
+    let h = sized-bounds (c .before .before .before .args .size) (a .0) in
+    search needs)
+    (λ c. rw (← (c .before .before .before .start-refusal .ensures), sym (c .before .before .accepts .ensures) ∙ not-false _ (c .before .if1 .left), le-leb _ _ (c .if2 .taken)))
+    (λ c. rw (← (c .before .before .before .start-refusal .ensures), sym (c .before .before .accepts .ensures) ∙ not-false _ (c .before .if1 .left), lt-leb _ _ (c .if2 .left))))

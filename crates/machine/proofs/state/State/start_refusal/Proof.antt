@@ -1,8 +1,8 @@
--- `run::outcome::start_refusal` meets its contract: the two checks in order. Assumes nothing.
-use Rattle.run.specs.Outcome.{startRefusal}
+-- `State::start_refusal` meets its contract: the two checks in order. Assumes nothing.
+use Rattle.machine.specs.Register.{startRefusal}
 use borrow.Author.Needs.{needs}
-use Rattle.run.proofs.outcome.start_refusal.Statement.{statement}
-use Rattle.run.proofs.outcome.start_refusal.Tie as tie
+use Rattle.machine.proofs.state.State.start_refusal.Statement.{statement}
+use Rattle.machine.proofs.state.State.start_refusal.Tie as tie
 
 pub start-refusal-spec : {M : Type 1} → statement M
 unfolding startRefusal

@@ -1,0 +1,39 @@
+-- What checks in a row show where they refuse nothing. Assumes nothing.
+use Prim.Native.Nat.{ℕ}
+use mathlib.Core.Bool.{Bool, true, false}
+use mathlib.Core.Path.{_≡_, refl, sym, _∙_}
+use Rattle.memory.specs.Access.{pick, sizedOf}
+use Rattle.memory.proofs.Laws.{never}
+use Rattle.machine.specs.Refusal.{acceptsOf, unless, orElse}
+use Rattle.machine.specs.Register.{refusalOf, startRefusal}
+use Rattle.machine.specs.declared.state.State.{State}
+use Rattle.machine.specs.declared.refusal.Refusal.{Refusal}
+
+pub accepts-none : (r : Refusal) → acceptsOf r ≡ true → r ≡ Refusal.None
+accepts-none Refusal.None h = refl
+accepts-none Refusal.Memory h = never (sym h)
+accepts-none Refusal.Iar h = never (sym h)
+accepts-none Refusal.Reserved h = never (sym h)
+accepts-none Refusal.Budget h = never (sym h)
+accepts-none Refusal.Events h = never (sym h)
+accepts-none Refusal.Capture h = never (sym h)
+accepts-none Refusal.Output h = never (sym h)
+
+-- no refusal by two checks is none by either
+or-cases : (a b : Refusal) (t : Bool) → acceptsOf a ≡ t → acceptsOf (pick t b a) ≡ true → (t ≡ true) × (acceptsOf b ≡ true)
+or-cases a b true e h = (refl, h)
+or-cases a b false e h = never (sym h ∙ e)
+
+pub or-accepts : (a b : Refusal) → acceptsOf (orElse a b) ≡ true → (acceptsOf a ≡ true) × (acceptsOf b ≡ true)
+or-accepts a b h = or-cases a b (acceptsOf a) refl h
+
+pub unless-accepts : (t : Bool) (r : Refusal) → acceptsOf r ≡ false → acceptsOf (unless t r) ≡ true → t ≡ true
+unless-accepts true r e h = refl
+unless-accepts false r e h = sym e ∙ h
+
+-- a start that is accepted
+pub start-accepts : (s : State) (m : ℕ) → acceptsOf (startRefusal s m) ≡ true → (sizedOf m ≡ true) × (refusalOf s ≡ Refusal.None)
+unfolding startRefusal
+start-accepts s m h =
+    let a = or-accepts (unless (sizedOf m) Refusal.Memory) (refusalOf s) h in
+    (unless-accepts (sizedOf m) Refusal.Memory refl (a .0), accepts-none (refusalOf s) (a .1))
