@@ -6,3 +6,4 @@ pub mod Demands
 pub mod Clean
 pub mod Sound
 pub mod Accepted
+pub mod Determined

@@ -1,0 +1,49 @@
+-- Answers are determined: any two results that meet the contract of a public operation are equal, what was lent included. Assumes nothing.
+use Prim.Native.Nat.{ℕ}
+use mathlib.Core.Path.{_≡_, sym, _∙_}
+use mathlib.Core.List.{List}
+use Rattle.insn.specs.Read.{decodeOf}
+use Rattle.insn.specs.Write.{writtenOf}
+use Rattle.insn.specs.declared.instr.Instr.{Instr}
+use Rattle.insn.specs.declared.instr.Decoded.{Decoded}
+use Rattle.insn.specs.declared.instr.Written.{Written}
+use Rattle.machine.specs.declared.state.State.{State}
+use Rattle.run.specs.Outcome.{runOutcome, runMemory, stepOutcome, stepMemory}
+use Rattle.run.specs.declared.outcome.Outcome.{Outcome}
+use Rattle.capture.specs.Read.{readOf, partOf}
+use Rattle.capture.specs.Write.{writtenOf as captureWritten, outOf}
+use Rattle.capture.specs.declared.read.Read.{Read}
+use Rattle.capture.specs.declared.write.Written.{Written as CaptureWritten}
+
+-- a contract that is an equation has one answer
+one : {A : Type 0} {x y z : A} → x ≡ z → y ≡ z → x ≡ y
+one p q = p ∙ sym q
+
+-- and one that is two has one answer and one thing left
+two : {A B : Type 0} {x y z : A} {u v w : B} → (x ≡ z) × (u ≡ w) → (y ≡ z) × (v ≡ w) → (x ≡ y) × (u ≡ v)
+two p q = (one (p .0) (q .0), one (p .1) (q .1))
+
+pub read-determined : (w : ℕ) (r q : Decoded) → r ≡ decodeOf w → q ≡ decodeOf w → r ≡ q
+read-determined w r q = one
+
+pub write-determined : (i : Instr) (r q : Written) → r ≡ writtenOf i → q ≡ writtenOf i → r ≡ q
+write-determined i r q = one
+
+module _ (s : State) (m : List ℕ) where
+  pub run-determined : (ev : List ℕ) (budget : ℕ) (r q : Outcome) (m′ n′ : List ℕ)
+      → (r ≡ runOutcome s m ev budget) × (m′ ≡ runMemory s m ev budget) → (q ≡ runOutcome s m ev budget) × (n′ ≡ runMemory s m ev budget) → (r ≡ q) × (m′ ≡ n′)
+  run-determined ev budget r q m′ n′ = two
+
+  pub step-determined : (e : ℕ) (r q : Outcome) (m′ n′ : List ℕ)
+      → (r ≡ stepOutcome s m e) × (m′ ≡ stepMemory s m e) → (q ≡ stepOutcome s m e) × (n′ ≡ stepMemory s m e) → (r ≡ q) × (m′ ≡ n′)
+  step-determined e r q m′ n′ = two
+
+  pub capture-write-determined : (out : List ℕ) (r q : CaptureWritten) (o′ p′ : List ℕ)
+      → (r ≡ captureWritten s m out) × (o′ ≡ outOf s m out) → (q ≡ captureWritten s m out) × (p′ ≡ outOf s m out) → (r ≡ q) × (o′ ≡ p′)
+  capture-write-determined out r q o′ p′ = two
+
+pub capture-state-determined : (f : List ℕ) (r q : Read) → r ≡ readOf f → q ≡ readOf f → r ≡ q
+capture-state-determined f r q = one
+
+pub capture-part-determined : (f r q : List ℕ) → r ≡ partOf f → q ≡ partOf f → r ≡ q
+capture-part-determined f r q = one

@@ -1,0 +1,256 @@
+//! The legal words, as a table of fixed bits and free fields. It is written apart from any reader of words, so that a
+//! reader can be held against it.
+
+use crate::urn::Urn;
+
+/// The sixteen defined registers; the first is the one that bases of update forms leave out.
+pub const REGISTERS: [u32; 16] = [0, 1, 2, 3, 4, 5, 6, 7, 8, 9, 10, 13, 28, 29, 30, 31];
+
+/// The sixteen SPR numbers; the last three cannot be written.
+pub const SPRS: [u32; 16] = [1, 8, 9, 22, 26, 27, 61, 62, 272, 308, 316, 336, 340, 63, 286, 287];
+const WRITABLE: usize = 13;
+
+/// What a field may hold.
+#[derive(Clone, Copy)]
+enum Values {
+    Any {
+        width: u32,
+    },
+    /// A signed number that is mostly small.
+    Offset {
+        width: u32,
+    },
+    Listed(&'static [u32]),
+    Sprs(&'static [u32]),
+}
+
+/// Values, and how far the field stands from the word's right end.
+#[derive(Clone, Copy)]
+struct Field {
+    values: Values,
+    shift: u32,
+}
+
+/// One instruction: its mnemonic, the word with all fields zero, and the fields.
+pub struct Form {
+    pub mnemonic: &'static str,
+    fixed: u32,
+    fields: &'static [Field],
+    /// RT and RA must differ, as in the update loads.
+    distinct: bool,
+}
+
+impl Field {
+    fn count(&self) -> u64 {
+        match self.values {
+            Values::Any { width } | Values::Offset { width } => 1 << width,
+            Values::Listed(values) | Values::Sprs(values) => values.len() as u64,
+        }
+    }
+
+    fn draw(&self, urn: &mut Urn) -> u32 {
+        let value = match self.values {
+            Values::Any { width } => urn.word() & ((1 << width) - 1),
+            Values::Offset { width } => offset(urn) & ((1 << width) - 1),
+            Values::Listed(values) => urn.pick(values),
+            Values::Sprs(numbers) => swapped(urn.pick(numbers)),
+        };
+        value << self.shift
+    }
+}
+
+/// An SPR number as it stands in a word, its halves in reverse order.
+fn swapped(number: u32) -> u32 {
+    (number & 31) << 5 | number >> 5
+}
+
+fn offset(urn: &mut Urn) -> u32 {
+    match urn.below(8) {
+        0..=2 => (urn.below(64).wrapping_sub(32)) << 2,
+        3..=4 => urn.below(32).wrapping_sub(16),
+        5 => urn.pick(&[0, 1, 0x7FFF, 0x8000, 0xFFFF]),
+        _ => urn.word(),
+    }
+}
+
+impl Form {
+    /// How many words the form has.
+    pub fn count(&self) -> u64 {
+        let words: u64 = self.fields.iter().map(Field::count).product();
+        // Each of the fifteen bases rules out one target of sixteen.
+        if self.distinct {
+            words / 16 * 15
+        } else {
+            words
+        }
+    }
+
+    /// A word of the form.
+    pub fn draw(&self, urn: &mut Urn) -> u32 {
+        loop {
+            let word = self.fields.iter().fold(self.fixed, |word, field| word | field.draw(urn));
+            if !self.distinct || word >> 21 & 31 != word >> 16 & 31 {
+                return word;
+            }
+        }
+    }
+}
+
+const fn any(shift: u32, width: u32) -> Field {
+    Field { values: Values::Any { width }, shift }
+}
+
+const fn listed(shift: u32, values: &'static [u32]) -> Field {
+    Field { values: Values::Listed(values), shift }
+}
+
+const fn sprs(numbers: &'static [u32]) -> Field {
+    Field { values: Values::Sprs(numbers), shift: 11 }
+}
+
+const fn nonzero() -> &'static [u32] {
+    REGISTERS.split_at(1).1
+}
+
+const fn writable() -> &'static [u32] {
+    SPRS.split_at(WRITABLE).0
+}
+
+const RT: Field = listed(21, &REGISTERS);
+const RA: Field = listed(16, &REGISTERS);
+const RB: Field = listed(11, &REGISTERS);
+/// RA of an update form.
+const BASE: Field = listed(16, nonzero());
+const OE: Field = any(10, 1);
+const RC: Field = any(0, 1);
+const IMMEDIATE: Field = Field { values: Values::Offset { width: 16 }, shift: 0 };
+const SH: Field = any(11, 5);
+const MB: Field = any(6, 5);
+const ME: Field = any(1, 5);
+const BO: Field = any(21, 5);
+const BO_0_1: Field = any(24, 2);
+const BO_3_4: Field = any(21, 2);
+const BI: Field = any(16, 2);
+const BH: Field = any(11, 2);
+const BD: Field = Field { values: Values::Offset { width: 14 }, shift: 2 };
+const LI: Field = Field { values: Values::Offset { width: 24 }, shift: 2 };
+const AA: Field = any(1, 1);
+const LK: Field = any(0, 1);
+const TO: Field = listed(21, &[0, 31]);
+const TG: Field = any(0, 1);
+const FLUSH_HINT: Field = any(21, 2);
+const TOUCH_HINT: Field = any(21, 5);
+const E: Field = any(15, 1);
+const READ_SPR: Field = sprs(&SPRS);
+const WRITE_SPR: Field = sprs(writable());
+
+const SUM: &[Field] = &[RT, RA, RB, OE, RC];
+const UNARY_SUM: &[Field] = &[RT, RA, OE, RC];
+const LOGIC: &[Field] = &[RT, RA, RB, RC];
+const UNARY: &[Field] = &[RT, RA, RC];
+const DISPLACED: &[Field] = &[RT, RA, IMMEDIATE];
+const UPDATING: &[Field] = &[RT, BASE, IMMEDIATE];
+const INDEXED: &[Field] = &[RT, RA, RB];
+
+const fn form(mnemonic: &'static str, fixed: u32, fields: &'static [Field]) -> Form {
+    Form { mnemonic, fixed, fields, distinct: false }
+}
+
+const fn updating_load(mnemonic: &'static str, opcode: u32) -> Form {
+    Form { mnemonic, fixed: primary(opcode), fields: UPDATING, distinct: true }
+}
+
+const fn primary(opcode: u32) -> u32 {
+    opcode << 26
+}
+
+const fn extended(opcode: u32, extended: u32) -> u32 {
+    opcode << 26 | extended << 1
+}
+
+/// The 83 instructions, in the order of the manual's 9.4.
+pub const FORMS: [Form; 83] = [
+    form("add", extended(31, 266), SUM),
+    form("addc", extended(31, 10), SUM),
+    form("adde", extended(31, 138), SUM),
+    form("addi", primary(14), DISPLACED),
+    form("addic", primary(12), DISPLACED),
+    form("addic.", primary(13), DISPLACED),
+    form("addis", primary(15), DISPLACED),
+    form("addme", extended(31, 234), UNARY_SUM),
+    form("addze", extended(31, 202), UNARY_SUM),
+    form("and", extended(31, 28), LOGIC),
+    form("andc", extended(31, 60), LOGIC),
+    form("andi.", primary(28), DISPLACED),
+    form("andis.", primary(29), DISPLACED),
+    form("b", primary(18), &[LI, AA, LK]),
+    form("bc", primary(16), &[BO, BI, BD, AA, LK]),
+    form("bcctr", extended(19, 528) | 1 << 23, &[BO_0_1, BO_3_4, BI, BH, LK]),
+    form("bclr", extended(19, 16), &[BO, BI, BH, LK]),
+    form("cmplw", extended(31, 32), &[RA, RB]),
+    form("cmplwi", primary(10), &[RA, IMMEDIATE]),
+    form("cmpw", extended(31, 0), &[RA, RB]),
+    form("cmpwi", primary(11), &[RA, IMMEDIATE]),
+    form("cntlzw", extended(31, 26), UNARY),
+    form("dcbf", extended(31, 86), &[FLUSH_HINT, RA, RB]),
+    form("dcbi", extended(31, 470), &[RA, RB]),
+    form("dcbt", extended(31, 278), &[TOUCH_HINT, RA, RB]),
+    form("dcbz", extended(31, 1014), &[RA, RB]),
+    form("eqv", extended(31, 284), LOGIC),
+    form("extsb", extended(31, 954), UNARY),
+    form("extsh", extended(31, 922), UNARY),
+    form("lbz", primary(34), DISPLACED),
+    updating_load("lbzu", 35),
+    form("lbzx", extended(31, 87), INDEXED),
+    form("lhz", primary(40), DISPLACED),
+    updating_load("lhzu", 41),
+    form("lhzx", extended(31, 279), INDEXED),
+    form("lwz", primary(32), DISPLACED),
+    updating_load("lwzu", 33),
+    form("lwzx", extended(31, 23), INDEXED),
+    form("mfcr", extended(31, 19), &[RT]),
+    form("mfmsr", extended(31, 83), &[RT]),
+    form("mfspr", extended(31, 339), &[RT, READ_SPR]),
+    form("mtcr0", extended(31, 144) | 0x80 << 12, &[RT]),
+    form("mtmsr", extended(31, 146), &[RT]),
+    form("mtspr", extended(31, 467), &[RT, WRITE_SPR]),
+    form("mullhw", extended(4, 424), LOGIC),
+    form("mullhwu", extended(4, 392), LOGIC),
+    form("nand", extended(31, 476), LOGIC),
+    form("neg", extended(31, 104), UNARY_SUM),
+    form("nor", extended(31, 124), LOGIC),
+    form("or", extended(31, 444), LOGIC),
+    form("orc", extended(31, 412), LOGIC),
+    form("ori", primary(24), DISPLACED),
+    form("oris", primary(25), DISPLACED),
+    form("rfi", extended(19, 50), &[]),
+    form("rlwimi", primary(20), &[RT, RA, SH, MB, ME, RC]),
+    form("rlwinm", primary(21), &[RT, RA, SH, MB, ME, RC]),
+    form("rlwnm", primary(23), &[RT, RA, RB, MB, ME, RC]),
+    form("slw", extended(31, 24), LOGIC),
+    form("sraw", extended(31, 792), LOGIC),
+    form("srawi", extended(31, 824), &[RT, RA, SH, RC]),
+    form("srw", extended(31, 536), LOGIC),
+    form("stb", primary(38), DISPLACED),
+    form("stbu", primary(39), UPDATING),
+    form("stbx", extended(31, 215), INDEXED),
+    form("sth", primary(44), DISPLACED),
+    form("sthu", primary(45), UPDATING),
+    form("sthx", extended(31, 407), INDEXED),
+    form("stw", primary(36), DISPLACED),
+    form("stwu", primary(37), UPDATING),
+    form("stwx", extended(31, 151), INDEXED),
+    form("subf", extended(31, 40), SUM),
+    form("subfc", extended(31, 8), SUM),
+    form("subfe", extended(31, 136), SUM),
+    form("subfic", primary(8), DISPLACED),
+    form("subfme", extended(31, 232), UNARY_SUM),
+    form("subfze", extended(31, 200), UNARY_SUM),
+    form("sync", extended(31, 598), &[]),
+    form("tw", extended(31, 4), &[TO, RA, RB, TG]),
+    form("wrtee", extended(31, 131), &[RT]),
+    form("wrteei", extended(31, 163), &[E]),
+    form("xor", extended(31, 316), LOGIC),
+    form("xori", primary(26), DISPLACED),
+    form("xoris", primary(27), DISPLACED),
+];

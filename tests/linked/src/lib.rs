@@ -1,0 +1,84 @@
+//! The library under test, through its C functions.
+
+#[cfg(not(archive))]
+extern crate exports as _;
+
+extern "C" {
+    fn ppe42_legal(word: u32) -> u32;
+    fn ppe42_rewrite(word: u32) -> u64;
+    fn ppe42_run(
+        state: *mut u8,
+        state_len: usize,
+        memory: *mut u8,
+        memory_len: usize,
+        events: *const u8,
+        events_len: usize,
+        budget: u32,
+    ) -> u64;
+    fn ppe42_step(state: *mut u8, state_len: usize, memory: *mut u8, memory_len: usize, event: u8) -> u64;
+    fn ppe42_capture_check(file: *const u8, len: usize) -> u32;
+    fn ppe42_capture_write(
+        state: *const u8,
+        state_len: usize,
+        memory: *const u8,
+        memory_len: usize,
+        out: *mut u8,
+        out_len: usize,
+    ) -> u64;
+}
+
+/// A bench core's functions, so that a comparison can be given another core than the linked one.
+#[derive(Clone, Copy)]
+pub struct Library {
+    /// 1 or 0.
+    pub legal: fn(u32) -> u32,
+    /// 2^32 + the word that reading and writing give, or 0 if illegal.
+    pub rewrite: fn(u32) -> u64,
+    /// Refusal * 2^32 + steps.
+    pub run: fn(&mut [u8], &mut [u8], &[u8], u32) -> u64,
+    pub step: fn(&mut [u8], &mut [u8], u8) -> u64,
+    /// A refusal, or 0.
+    pub capture_check: fn(&[u8]) -> u32,
+    /// Refusal * 2^32 + bytes written.
+    pub capture_write: fn(&[u8], &[u8], &mut [u8]) -> u64,
+}
+
+pub const LINKED: Library = Library { legal, rewrite, run, step, capture_check, capture_write };
+
+// SAFETY, for each call: the library touches nothing but the buffers that it is lent, within their lengths.
+
+fn legal(word: u32) -> u32 {
+    unsafe { ppe42_legal(word) }
+}
+
+fn rewrite(word: u32) -> u64 {
+    unsafe { ppe42_rewrite(word) }
+}
+
+fn run(state: &mut [u8], memory: &mut [u8], events: &[u8], budget: u32) -> u64 {
+    unsafe {
+        ppe42_run(
+            state.as_mut_ptr(),
+            state.len(),
+            memory.as_mut_ptr(),
+            memory.len(),
+            events.as_ptr(),
+            events.len(),
+            budget,
+        )
+    }
+}
+
+fn step(state: &mut [u8], memory: &mut [u8], event: u8) -> u64 {
+    unsafe { ppe42_step(state.as_mut_ptr(), state.len(), memory.as_mut_ptr(), memory.len(), event) }
+}
+
+fn capture_check(file: &[u8]) -> u32 {
+    unsafe { ppe42_capture_check(file.as_ptr(), file.len()) }
+}
+
+fn capture_write(state: &[u8], memory: &[u8], out: &mut [u8]) -> u64 {
+    unsafe {
+        ppe42_capture_write(state.as_ptr(), state.len(), memory.as_ptr(), memory.len(), out.as_mut_ptr(), out.len())
+    }
+}

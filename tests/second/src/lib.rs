@@ -1,0 +1,69 @@
+//! A second bench core, written from the manual, the scope and docs/DECISIONS.md, to hold the proved one against.
+
+#![forbid(unsafe_code)]
+
+mod arithmetic;
+mod capture;
+mod execute;
+mod interrupts;
+mod memory;
+mod refusals;
+pub mod registers;
+mod special;
+mod step;
+mod timers;
+mod word;
+
+pub use arithmetic::mask;
+pub use interrupts::{Asynchronous, Fault, Taken};
+pub use registers::Core;
+pub use step::Outcome;
+pub use word::{spr, Kind, Word};
+
+use refusals::{check_budget, check_core, check_events};
+
+/// Bytes of a state record: 36 big-endian words in the order of a capture.
+pub const STATE: usize = capture::STATE;
+
+pub fn legal(word: u32) -> bool {
+    Word(word).kind().is_some()
+}
+
+/// Refusal * 2^32 + steps; a refusal leaves every byte as given.
+pub fn run(state: &mut [u8], memory: &mut [u8], events: &[u8], budget: u32) -> u64 {
+    answer(accept(state, memory, events, budget).map(|mut core| {
+        let steps = core.run(memory, events, budget);
+        capture::write_words(&core.to_words(), state);
+        steps
+    }))
+}
+
+/// The same for one step.
+pub fn step(state: &mut [u8], memory: &mut [u8], event: u8) -> u64 {
+    run(state, memory, &[event], 1)
+}
+
+/// The core that a run starts from, or its refusal.
+pub fn accept(state: &[u8], memory: &[u8], events: &[u8], budget: u32) -> Result<Core, u32> {
+    let words = capture::read_words(state)?;
+    check_core(&words, memory.len())?;
+    check_budget(budget)?;
+    check_events(events)?;
+    Ok(Core::from_words(&words))
+}
+
+pub fn capture_check(file: &[u8]) -> u32 {
+    capture::check(file).err().unwrap_or(0)
+}
+
+/// Refusal * 2^32 + bytes written.
+pub fn capture_write(state: &[u8], memory: &[u8], out: &mut [u8]) -> u64 {
+    answer(capture::write(state, memory, out))
+}
+
+fn answer(result: Result<u32, u32>) -> u64 {
+    match result {
+        Ok(count) => count as u64,
+        Err(refusal) => (refusal as u64) << 32,
+    }
+}

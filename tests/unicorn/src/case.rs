@@ -1,0 +1,188 @@
+//! A case: a word, and the registers before it. Data lies in the first half of memory, code in the second.
+
+use draw::{Form, Urn, FORMS, REGISTERS};
+use linked::LINKED;
+use std::fmt;
+
+pub const MEMORY: usize = 8192;
+const DATA: u32 = 4096;
+/// Two instructions of the emulator's own stand at the start of the code.
+const FIRST: u32 = DATA + 8;
+
+/// MSR[UIE, ME], so that a fault of the core shows as one.
+const MSR: u32 = 0x0001_1000;
+/// The place of each compared register in a state record.
+const CR: usize = 16;
+const CTR: usize = 17;
+const LR: usize = 24;
+const MSR_AT: usize = 25;
+const XER: usize = 33;
+const IAR: usize = 34;
+const WORDS: usize = 36;
+
+/// Left out: what is the PPE 42's own or looks at a state that the 405 does not share.
+const LEFT_OUT: [&str; 7] = [
+    "mfmsr", "mtmsr", // the two MSRs share few fields
+    "rfi",   // it restores such an MSR
+    "wrtee", "wrteei", // MSR[EE] is seen through mfmsr alone
+    "tw",     // trap enters the 405's own vector; other TO are illegal here
+    "dcbi",   // privileged; it changes no byte here
+];
+
+/// SPRs that both cores have with the same meaning: XER, LR, CTR.
+const SHARED_SPRS: [u32; 3] = [1, 8, 9];
+
+/// The registers that are compared, on either side of a case.
+#[derive(Clone, Debug, PartialEq, Eq)]
+pub struct Side {
+    pub gpr: [u32; 16],
+    pub cr: u32,
+    pub xer: u32,
+    pub lr: u32,
+    pub ctr: u32,
+    pub iar: u32,
+    /// Something other than the end of one instruction.
+    pub trouble: Option<String>,
+}
+
+pub struct Case {
+    pub mnemonic: &'static str,
+    pub word: u32,
+    pub before: Side,
+}
+
+impl Case {
+    pub fn draw(urn: &mut Urn) -> Case {
+        let form = loop {
+            let form = &FORMS[urn.below(FORMS.len() as u32) as usize];
+            if !LEFT_OUT.contains(&form.mnemonic) {
+                break form;
+            }
+        };
+        let mut case = Case { mnemonic: form.mnemonic, word: draw_word(form, urn), before: Side::draw(urn) };
+        if let Some(size) = case.access() {
+            case.aim(urn, size);
+        }
+        case
+    }
+
+    /// How many bytes the instruction works on at its address; caches work on any.
+    fn access(&self) -> Option<u32> {
+        let name = self.mnemonic;
+        match name {
+            "dcbf" | "dcbt" | "dcbz" => Some(1),
+            _ if name.starts_with("lb") || name.starts_with("stb") => Some(1),
+            _ if name.starts_with("lh") || name.starts_with("sth") => Some(2),
+            _ if name.starts_with("lw") || name.starts_with("stw") => Some(4),
+            _ => None,
+        }
+    }
+
+    /// Sets registers so that the address is aligned and among the data: unaligned and outside are the board's own.
+    fn aim(&mut self, urn: &mut Urn, size: u32) {
+        let address = urn.below(DATA / 8) * 8 + urn.below(8 / size) * size;
+        let (ra, rb) = (self.word >> 16 & 31, self.word >> 11 & 31);
+        if self.word >> 26 == 31 {
+            match (ra, rb) {
+                (0, _) => self.set(rb, address),
+                _ if ra == rb => {
+                    // Twice the register: eight bytes apart reach every aligned size.
+                    self.set(ra, (address / 8 * 4) | urn.some_of(0x8000_0000));
+                }
+                _ => {
+                    let index = address.wrapping_sub(self.get(ra));
+                    self.set(rb, index);
+                }
+            }
+        } else if ra == 0 {
+            self.word = self.word & !0xFFFF | address;
+        } else {
+            self.set(ra, address.wrapping_sub(self.word as u16 as i16 as u32));
+        }
+    }
+
+    fn set(&mut self, register: u32, value: u32) {
+        self.before.gpr[place(register)] = value;
+    }
+
+    fn get(&self, register: u32) -> u32 {
+        self.before.gpr[place(register)]
+    }
+
+    /// Writes the word where the case starts.
+    pub fn place(&self, memory: &mut [u8; MEMORY]) {
+        memory[self.before.iar as usize..][..4].copy_from_slice(&self.word.to_be_bytes());
+    }
+
+    /// The registers after one step of the library.
+    pub fn run_library(&self, memory: &mut [u8; MEMORY]) -> Side {
+        let mut state = self.before.to_state();
+        let answer = (LINKED.step)(&mut state, memory, 0);
+        let mut after = Side::from_state(&state);
+        after.trouble = (answer != 1).then(|| format!("answer {answer:#x}"));
+        after
+    }
+}
+
+fn draw_word(form: &Form, urn: &mut Urn) -> u32 {
+    let word = form.draw(urn);
+    match form.mnemonic {
+        "mfspr" | "mtspr" => word & !(0x3FF << 11) | urn.pick(&SHARED_SPRS) << 16,
+        // The emulator knows dcbf's hint bit 10 alone, and takes bit 9 for a reserved one.
+        "dcbf" => word & !(1 << 22),
+        _ => word,
+    }
+}
+
+fn place(register: u32) -> usize {
+    REGISTERS.iter().position(|number| *number == register).expect("a defined register")
+}
+
+impl Side {
+    fn draw(urn: &mut Urn) -> Side {
+        Side {
+            gpr: std::array::from_fn(|_| urn.value()),
+            cr: urn.some_of(0xF000_0000),
+            xer: urn.some_of(0xE000_0000),
+            lr: urn.value(),
+            ctr: urn.value(),
+            iar: FIRST + 4 * urn.below((MEMORY as u32 - FIRST) / 4),
+            trouble: None,
+        }
+    }
+
+    fn to_state(&self) -> Vec<u8> {
+        let mut words = [0; WORDS];
+        words[..16].copy_from_slice(&self.gpr);
+        (words[CR], words[CTR], words[LR]) = (self.cr, self.ctr, self.lr);
+        (words[MSR_AT], words[XER], words[IAR]) = (MSR, self.xer, self.iar);
+        words.iter().flat_map(|word: &u32| word.to_be_bytes()).collect()
+    }
+
+    fn from_state(state: &[u8]) -> Side {
+        let word = |i: usize| u32::from_be_bytes([state[4 * i], state[4 * i + 1], state[4 * i + 2], state[4 * i + 3]]);
+        Side {
+            gpr: std::array::from_fn(word),
+            cr: word(CR),
+            xer: word(XER),
+            lr: word(LR),
+            ctr: word(CTR),
+            iar: word(IAR),
+            trouble: None,
+        }
+    }
+}
+
+impl fmt::Display for Side {
+    fn fmt(&self, f: &mut fmt::Formatter) -> fmt::Result {
+        for (number, value) in REGISTERS.iter().zip(self.gpr) {
+            write!(f, "r{number} {value:08X} ")?;
+        }
+        write!(f, "CR {:08X} XER {:08X} LR {:08X} ", self.cr, self.xer, self.lr)?;
+        write!(f, "CTR {:08X} IAR {:08X}", self.ctr, self.iar)?;
+        match &self.trouble {
+            Some(trouble) => write!(f, " ({trouble})"),
+            None => Ok(()),
+        }
+    }
+}

@@ -1,0 +1,74 @@
+//! One-instruction cases of the library under test against the Unicorn emulator's PowerPC 405.
+//!
+//! `unicorn SEED CASES`; the exit status is 1 if a case differs.
+
+mod case;
+mod emulator;
+
+use case::{Case, Side};
+use draw::Urn;
+use emulator::Emulator;
+use std::collections::BTreeMap;
+use std::process::ExitCode;
+
+const SHOWN: u64 = 10;
+/// A store crashes Unicorn 2.0.1 some 800,000 cases after its start, so a new one is started well before.
+const LIFE: u64 = 100_000;
+
+fn main() -> ExitCode {
+    let arguments: Vec<u64> = std::env::args().skip(1).filter_map(|argument| argument.parse().ok()).collect();
+    let [seed, cases] = arguments[..] else {
+        eprintln!("usage: unicorn SEED CASES");
+        return ExitCode::from(2);
+    };
+    println!("seed {seed}, {cases} cases");
+    let differences = compare(&mut Urn::new(seed), cases);
+    println!("{differences} differences");
+    if differences == 0 {
+        ExitCode::SUCCESS
+    } else {
+        ExitCode::FAILURE
+    }
+}
+
+fn compare(urn: &mut Urn, cases: u64) -> u64 {
+    let mut emulator = Emulator::new();
+    let mut memory = [0; case::MEMORY];
+    let mut seen = BTreeMap::new();
+    let mut differences = 0;
+    urn.fill(&mut memory);
+    emulator::install(&mut memory);
+    for number in 0..cases {
+        let case = Case::draw(urn);
+        case.place(&mut memory);
+        *emulator.memory() = memory;
+        let core = case.run_library(&mut memory);
+        let emulated = emulator.run(&case);
+        *seen.entry(case.mnemonic).or_insert(0u64) += 1;
+        if core != emulated || memory != *emulator.memory() {
+            differences += 1;
+            show(differences, number, &case, &core, &emulated, &memory, emulator.memory());
+        }
+        if (number + 1) % LIFE == 0 {
+            eprintln!("{} cases, {differences} differences", number + 1);
+            emulator = Emulator::new();
+        }
+    }
+    for (mnemonic, count) in seen {
+        println!("{mnemonic:8} {count:10}");
+    }
+    differences
+}
+
+fn show(nth: u64, number: u64, case: &Case, core: &Side, emulated: &Side, memory: &[u8], theirs: &[u8]) {
+    if nth > SHOWN {
+        return;
+    }
+    println!("case {number}: {} {:08X}", case.mnemonic, case.word);
+    println!("  before:  {}", case.before);
+    println!("  core:    {core}");
+    println!("  unicorn: {emulated}");
+    for (at, (ours, theirs)) in memory.iter().zip(theirs).enumerate().filter(|(_, (ours, theirs))| ours != theirs) {
+        println!("  byte {at:04X}: core {ours:02X}, unicorn {theirs:02X}");
+    }
+}
