@@ -1,0 +1,329 @@
+// Checks the cases of text files through the bench core's C boundary. README.md gives their form.
+#include <inttypes.h>
+#include <stdarg.h>
+#include <stdbool.h>
+#include <stdint.h>
+#include <stdio.h>
+#include <stdlib.h>
+#include <string.h>
+
+#include "ppe42.h"
+
+enum { WORDS = PPE42_STATE / 4, DEC = 20, EDR = 21, TCR = 31, IAR = 34, GUARD = 64, FILL = 0xEE, EDGE = 0x5A };
+
+#define TCR_DS 0x00400000u
+
+// The words of a state in their order, and what a case starts from where it sets nothing.
+static const struct { const char *name; uint32_t start; } registers[WORDS] = {
+    {"r0", 0x99990000},   {"r1", 0x99990001},   {"r2", 0x99990002},   {"r3", 0x99990003},    {"r4", 0x99990004},
+    {"r5", 0x99990005},   {"r6", 0x99990006},   {"r7", 0x99990007},   {"r8", 0x99990008},    {"r9", 0x99990009},
+    {"r10", 0x99990010},  {"r13", 0x99990013},  {"r28", 0x99990028},  {"r29", 0x99990029},   {"r30", 0x99990030},
+    {"r31", 0x99990031},  {"CR", 0},            {"CTR", 0x9999C000},  {"DACR", 0x9999DAC0},  {"DBCR", 0},
+    {"DEC", 0x00100000},  {"EDR", 0x9999ED00},  {"ISR", 0},           {"IVPR", 0},           {"LR", 0x99991000},
+    {"MSR", 0},           {"PIR", 0x00000099},  {"PVR", 0x42000099},  {"SPRG0", 0x99992720}, {"SRR0", 0x99990260},
+    {"SRR1", 0x19990000}, {"TCR", 0},           {"TSR", 0},           {"XER", 0},            {"IAR", 0},
+    {"halt", 0},
+};
+
+struct piece { uint32_t at; unsigned count; uint8_t bytes[32]; };
+struct pieces { unsigned count; struct piece piece[48]; };
+
+struct test {
+    char name[120];
+    unsigned line;
+    bool open, ran, wants, tried;
+    uint32_t lend, cursor, budget, word;
+    uint32_t start[WORDS], want[WORDS];
+    bool named[WORDS], edr_is_word, steps_named;
+    uint32_t steps, refusal;
+    struct pieces given, wanted;
+    uint8_t *events;
+    size_t events_len;
+};
+
+static const char *file;
+static unsigned line, cases, failures, differences;
+
+static _Noreturn void malformed(const char *why, const char *what) {
+    fprintf(stderr, "%s:%u: %s: %s\n", file, line, why, what);
+    exit(2);
+}
+
+static void *room_for(size_t bytes) {
+    void *room = malloc(bytes);
+    if (!room) malformed("no room", "memory");
+    return room;
+}
+
+// Ends the first part of a text and gives the rest of it.
+static char *split(char *text) {
+    char *rest = text + strcspn(text, " \t");
+    if (*rest) *rest++ = 0;
+    return rest + strspn(rest, " \t");
+}
+
+static uint32_t number(const char *text, int base) {
+    char *end;
+    unsigned long long value = strtoull(text, &end, base);
+    if (end == text || *end || value > UINT32_MAX) malformed("no number", text);
+    return (uint32_t)value;
+}
+
+static void put(uint8_t *at, uint32_t word) {
+    for (int i = 0; i < 4; i++) at[i] = (uint8_t)(word >> (24 - 8 * i));
+}
+
+static uint32_t get(const uint8_t *at) {
+    return (uint32_t)at[0] << 24 | (uint32_t)at[1] << 16 | (uint32_t)at[2] << 8 | at[3];
+}
+
+static struct piece *piece_of(struct pieces *pieces, uint32_t at) {
+    if (pieces->count == sizeof pieces->piece / sizeof *pieces->piece) malformed("too many", "bytes of memory");
+    struct piece *piece = &pieces->piece[pieces->count++];
+    *piece = (struct piece){.at = at};
+    return piece;
+}
+
+static void add_word(struct pieces *pieces, uint32_t at, uint32_t word) {
+    struct piece *piece = piece_of(pieces, at);
+    piece->count = 4;
+    put(piece->bytes, word);
+}
+
+static void lay(uint8_t *memory, uint32_t size, const struct pieces *pieces) {
+    for (unsigned i = 0; i < pieces->count; i++) {
+        const struct piece *piece = &pieces->piece[i];
+        if (piece->at > size || piece->count > size - piece->at) malformed("outside lent memory", "code or mem");
+        memcpy(memory + piece->at, piece->bytes, piece->count);
+    }
+}
+
+static int register_named(const char *name) {
+    int index = 0;
+    while (index < WORDS && strcmp(registers[index].name, name)) index++;
+    if (index == WORDS) malformed("no register", name);
+    return index;
+}
+
+static void start_with(struct test *test, const char *name, const char *value) {
+    if (!strcmp(name, "word")) {
+        test->word = number(value, 16);
+        add_word(&test->given, test->start[IAR], test->word);
+        return;
+    }
+    int index = register_named(name);
+    test->start[index] = number(value, 16);
+    if (index == IAR) test->cursor = test->start[IAR];
+}
+
+static void end_with(struct test *test, const char *name, const char *value) {
+    if (!strcmp(name, "steps")) {
+        test->steps = number(value, 10);
+        test->steps_named = true;
+    } else if (!strcmp(name, "refusal")) {
+        test->refusal = number(value, 10);
+    } else {
+        int index = register_named(name);
+        test->named[index] = true;
+        if (index == EDR && !strcmp(value, "word")) test->edr_is_word = true;
+        else test->want[index] = number(value, 16);
+    }
+}
+
+// Hands each NAME=VALUE of a line on; text may follow those of a try line.
+static void assign(struct test *test, char *rest, bool text_may_follow,
+                   void take(struct test *, const char *name, const char *value)) {
+    for (char *part = strtok(rest, " \t"); part; part = strtok(NULL, " \t")) {
+        char *value = strchr(part, '=');
+        if (!value && text_may_follow) return;
+        if (!value) malformed("no assignment", part);
+        *value++ = 0;
+        take(test, part, value);
+    }
+}
+
+static void differ(const struct test *test, const char *form, ...) {
+    va_list values;
+    va_start(values, form);
+    fprintf(stderr, "%s:%u: %s: ", file, test->line, test->name);
+    vfprintf(stderr, form, values);
+    fputc('\n', stderr);
+    va_end(values);
+    differences++;
+}
+
+static uint32_t wanted_word(const struct test *test, int index, uint32_t steps) {
+    if (index == EDR && test->edr_is_word) return test->word;
+    if (test->named[index]) return test->want[index];
+    if (index == DEC && !(test->start[TCR] & TCR_DS)) return test->start[index] - steps;
+    return test->start[index];
+}
+
+static bool edges_kept(const uint8_t *room, size_t size) {
+    for (size_t i = 0; i < GUARD; i++)
+        if (room[i] != EDGE || room[GUARD + size + i] != EDGE) return false;
+    return true;
+}
+
+// Plays one case and compares all it leaves: refusal, steps, registers, memory and the bytes around what was lent.
+static void check(const struct test *test) {
+    uint8_t state[GUARD + PPE42_STATE + GUARD];
+    size_t room_len = GUARD + (size_t)test->lend + GUARD;
+    uint8_t *room = room_for(room_len), *memory = room + GUARD, *expected = room_for(room_len);
+    unsigned before = differences;
+    memset(state, EDGE, sizeof state);
+    memset(room, EDGE, room_len);
+    memset(memory, FILL, test->lend);
+    lay(memory, test->lend, &test->given);
+    memcpy(expected, memory, test->lend);
+    lay(expected, test->lend, &test->wanted);
+    for (int i = 0; i < WORDS; i++) put(state + GUARD + 4 * i, test->start[i]);
+
+    uint64_t answer = ppe42_run(state + GUARD, PPE42_STATE, memory, test->lend, test->events, test->events_len,
+                                test->budget);
+    uint32_t refusal = ppe42_refusal(answer), steps = ppe42_count(answer);
+    uint32_t wanted_steps = test->steps_named ? test->steps : test->refusal ? 0 : test->budget;
+
+    if (refusal != test->refusal) differ(test, "refusal wanted %" PRIu32 ", found %" PRIu32, test->refusal, refusal);
+    if (steps != wanted_steps) differ(test, "steps wanted %" PRIu32 ", found %" PRIu32, wanted_steps, steps);
+    for (int i = 0; i < WORDS; i++) {
+        uint32_t wanted = wanted_word(test, i, wanted_steps), found = get(state + GUARD + 4 * i);
+        if (found != wanted)
+            differ(test, "%s wanted %08" PRIX32 ", found %08" PRIX32, registers[i].name, wanted, found);
+    }
+    for (uint32_t i = 0; i < test->lend; i++)
+        if (memory[i] != expected[i])
+            differ(test, "byte %08" PRIX32 " wanted %02X, found %02X", i, expected[i], memory[i]);
+    if (!edges_kept(state, PPE42_STATE) || !edges_kept(room, test->lend))
+        differ(test, "a byte around what was lent has changed");
+    cases++;
+    failures += differences != before;
+    free(room);
+    free(expected);
+}
+
+static void begin(struct test *test, const char *name) {
+    *test = (struct test){.line = line, .open = true, .lend = 512};
+    snprintf(test->name, sizeof test->name, "%s", name);
+    for (int i = 0; i < WORDS; i++) test->start[i] = registers[i].start;
+}
+
+static void finish(struct test *test) {
+    if (!test->open) return;
+    if (!test->ran || !test->wants) malformed("the case before this line has no run or no want", test->name);
+    if (!test->tried) check(test);
+    free(test->events);
+    test->open = false;
+}
+
+static void read_events(struct test *test, char *rest) {
+    for (char *part = strtok(rest, " \t"); part; part = strtok(NULL, " \t")) {
+        char *times = strchr(part, '*');
+        if (times) *times = 0;
+        size_t count = times ? number(part, 10) : 1;
+        uint32_t value = number(times ? times + 1 : part, 10);
+        if (value > 255) malformed("no byte", part);
+        uint8_t *longer = realloc(test->events, test->events_len + count);
+        if (!longer) malformed("no room", "events");
+        memset(longer + test->events_len, (int)value, count);
+        test->events = longer;
+        test->events_len += count;
+    }
+}
+
+static void read_bytes(struct piece *piece, char *rest) {
+    for (char *part = strtok(rest, " \t"); part; part = strtok(NULL, " \t")) {
+        for (; *part; part += 2) {
+            char pair[3] = {part[0], part[1], 0};
+            if (!pair[1] || piece->count == sizeof piece->bytes) malformed("no bytes", part);
+            piece->bytes[piece->count++] = (uint8_t)number(pair, 16);
+        }
+    }
+}
+
+static void try_once(struct test *test, char *rest) {
+    if (!test->ran || !test->wants) malformed("try comes after run and want", rest);
+    test->tried = true;
+    struct test one = *test;
+    one.line = line;
+    snprintf(one.name, sizeof one.name, "%s", rest);
+    assign(&one, rest, true, start_with);
+    check(&one);
+}
+
+static void read_part(struct test *test, const char *key, char *rest) {
+    if (!strcmp(key, "lend")) {
+        test->lend = number(rest, 10);
+    } else if (!strcmp(key, "set")) {
+        assign(test, rest, false, start_with);
+    } else if (!strcmp(key, "at")) {
+        test->cursor = number(rest, 16);
+    } else if (!strcmp(key, "code")) {
+        split(rest);
+        add_word(&test->given, test->cursor, number(rest, 16));
+        test->cursor += 4;
+    } else if (!strcmp(key, "mem")) {
+        char *bytes = split(rest);
+        read_bytes(piece_of(test->ran ? &test->wanted : &test->given, number(rest, 16)), bytes);
+    } else if (!strcmp(key, "events")) {
+        read_events(test, rest);
+    } else if (!strcmp(key, "run")) {
+        test->budget = number(rest, 10);
+        test->ran = true;
+    } else if (!strcmp(key, "want")) {
+        assign(test, rest, false, end_with);
+        test->wants = true;
+    } else {
+        malformed("no such line", key);
+    }
+}
+
+static void read_line(struct test *test, char *text) {
+    char *section = strchr(text, '#');
+    if (section) *section = 0;
+    for (size_t end = strlen(text); end && strchr(" \t\r\n", text[end - 1]); end--) text[end - 1] = 0;
+    if (!*text) return;
+    char *rest = split(text);
+    if (!strcmp(text, "case")) {
+        finish(test);
+        if (!section) malformed("a case without its section", rest);
+        begin(test, rest);
+    } else if (!test->open) {
+        malformed("no case yet", text);
+    } else if (!strcmp(text, "try")) {
+        try_once(test, rest);
+    } else if (test->tried) {
+        malformed("only a try or a case may follow a try", text);
+    } else {
+        read_part(test, text, rest);
+    }
+}
+
+static void check_file(const char *path) {
+    static struct test test;
+    char text[512];
+    unsigned cases_before = cases, failures_before = failures;
+    FILE *in = fopen(path, "r");
+    file = path;
+    line = 0;
+    if (!in) malformed("cannot be read", path);
+    while (fgets(text, sizeof text, in)) {
+        line++;
+        if (!strchr(text, '\n') && !feof(in)) malformed("too long", "line");
+        read_line(&test, text);
+    }
+    fclose(in);
+    finish(&test);
+    if (cases == cases_before) malformed("no case", path);
+    printf("%s: %u cases, %u failed\n", path, cases - cases_before, failures - failures_before);
+}
+
+int main(int count, char **paths) {
+    if (count < 2) {
+        fprintf(stderr, "usage: cases FILE..\n");
+        return 2;
+    }
+    for (int i = 1; i < count; i++) check_file(paths[i]);
+    printf("%u cases, %u failed\n", cases, failures);
+    return failures != 0;
+}
