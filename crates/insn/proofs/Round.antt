@@ -1,0 +1,272 @@
+-- What is written is read back, what is read is written back, and an illegal word is no valid instruction's. Assumes nothing.
+use mathlib.Core.Path.{_≡_, _∙_, refl, sym, ap}
+use mathlib.Core.Bool.{Bool, true, false, cond, not, _&&_}
+use mathlib.Core.List.{List, [], _∷_}
+use Prim.Native.Nat.{ℕ, _+_, _%_, _<_, _≤_}
+use native.Mathlib.Omega.{arith}
+use native.Mathlib.Decide.{decLe}
+use native.Mathlib.Nat.{lt-of-not-le}
+use lib.Dec.{eqb, lit<}
+use borrow.Author.Tests.{eqb-true, eq-eqb, lt-leb, le-leb, ne-eqb, ltb-true}
+use Rattle.word.specs.Bits.{bitsAt, fieldAt}
+use Rattle.insn.specs.Codes.{moveFxm}
+use Rattle.insn.specs.Fields.{fieldsOf, wordD, wordX, wordXO, wordXFX, wordE, wordM, wordB, wordI}
+use Rattle.insn.specs.Valid.{fits, regOf, twoRegs, threeRegs, isSpr, readOnly, sprOk, isTo, hintOk, loadForm, storeForm, branchForm, validOf}
+use Rattle.insn.specs.Write.{wordOf}
+use Rattle.insn.specs.Read.{primary, primaryRows, arithmetic, opcode19, opcode4, guessOf, settled, decodeOf}
+use Rattle.insn.specs.declared.fields.Fields.{Fields}
+use Rattle.insn.specs.declared.instr.Instr.{Instr}
+use Rattle.insn.specs.declared.instr.Decoded.{Decoded}
+use Rattle.insn.specs.declared.instr.Arithmetic.{Arithmetic}
+use Rattle.insn.specs.declared.instr.Logical.{Logical}
+use Rattle.insn.specs.declared.instr.Compare.{Compare}
+use Rattle.insn.specs.declared.instr.Rotate.{Rotate}
+use Rattle.insn.specs.declared.instr.LoadStore.{LoadStore}
+use Rattle.insn.specs.declared.instr.Branch.{Branch}
+use Rattle.insn.specs.declared.instr.System.{System}
+use Rattle.insn.specs.declared.instr.SprOp.{SprOp}
+use Rattle.insn.specs.declared.instr.CacheOp.{CacheOp}
+use Rattle.insn.proofs.Parts.{DParts, d-parts, XParts, x-parts, XOParts, xo-parts, XFXParts, xfx-parts, EParts, e-parts, MParts, m-parts, BParts, b-parts, IParts, i-parts}
+use Rattle.insn.proofs.Hits.{Primary, XO31, X31, X19, X4, hit-arith-imm, hit-arith, hit-arith-one, hit-multiply, hit-logic-imm, hit-logic, hit-logic-one, hit-compare-imm, hit-compare, hit-rotate-imm, hit-rotate, hit-shift, hit-srawi, hit-load, hit-load-indexed, hit-store, hit-store-indexed, hit-branch, hit-branch-if, hit-branch-to, hit-trap, hit-spr, hit-move, hit-wrteei, hit-rfi, hit-sync, hit-cache}
+
+both : (a b : Bool) → (a && b) ≡ true → (a ≡ true) × (b ≡ true)
+both true b e = (refl, e)
+both false b e = let z : _≡_ {A = ℕ} 0 1 = cc in absurd (omega arith)
+
+-- a word that reads as an instruction is what that instruction is written as, and the instruction is valid
+settled-is : (w : ℕ) (d : Decoded) (i : Instr) → settled w d ≡ Decoded.Insn i → (validOf i ≡ true) × (wordOf i ≡ w)
+settled-is w Decoded.Illegal i e = let z : _≡_ {A = ℕ} 0 1 = cc in absurd (omega arith)
+settled-is w (Decoded.Insn j) i e = go (validOf j && eqb (wordOf j) w) refl e
+  where
+    go : (b : Bool) → (validOf j && eqb (wordOf j) w) ≡ b → cond b (Decoded.Insn j) Decoded.Illegal ≡ Decoded.Insn i → (validOf i ≡ true) × (wordOf i ≡ w)
+    go true t h =
+        let s : j ≡ i = cc in
+        let p = both (validOf j) (eqb (wordOf j) w) t in
+        (ap validOf (sym s) ∙ p .0, ap wordOf (sym s) ∙ eqb-true (wordOf j) w (p .1))
+    go false t h = let z : _≡_ {A = ℕ} 0 1 = cc in absurd (omega arith)
+
+pub read-written : (w : ℕ) (i : Instr) → decodeOf w ≡ Decoded.Insn i → (validOf i ≡ true) × (wordOf i ≡ w)
+unfolding decodeOf
+read-written w i e = settled-is w (guessOf (fieldsOf w)) i e
+
+-- a test that fails from m on and passes at r shows that r is below m
+below : (t : ℕ → Bool) (m : ℕ) → ((r : ℕ) → m ≤ r → t r ≡ false) → (r : ℕ) → t r ≡ true → r < m
+below t m big r e = elim (decLe m r) [ yes h ↦ (let b = big r h in let z : _≡_ {A = ℕ} 0 1 = cc in absurd (omega arith)) | no n ↦ lt-of-not-le n ]
+
+reg-lt : (r : ℕ) → regOf r ≡ true → r < 32
+unfolding regOf
+reg-lt = below regOf 32 (λ r h. simp (lt-leb r 10 (omega arith), ne-eqb r 13 (omega arith), le-leb 28 r (omega arith), lt-leb r 31 (omega arith)))
+
+spr-lt : (n : ℕ) → isSpr n ≡ true → n < 1024
+unfolding isSpr
+spr-lt = below isSpr 1024 (λ n h. simp (ne-eqb n 1 (omega arith), ne-eqb n 8 (omega arith), ne-eqb n 9 (omega arith), ne-eqb n 22 (omega arith), ne-eqb n 26 (omega arith), ne-eqb n 27 (omega arith), ne-eqb n 61 (omega arith), ne-eqb n 62 (omega arith), ne-eqb n 63 (omega arith), ne-eqb n 272 (omega arith), ne-eqb n 286 (omega arith), ne-eqb n 287 (omega arith), ne-eqb n 308 (omega arith), ne-eqb n 316 (omega arith), ne-eqb n 336 (omega arith), ne-eqb n 340 (omega arith)))
+
+spr-ok-lt : (op : SprOp) (n : ℕ) → sprOk op n ≡ true → n < 1024
+spr-ok-lt SprOp.Mfspr n v = spr-lt n v
+spr-ok-lt SprOp.Mtspr n v = spr-lt n (both (isSpr n) (not (readOnly n)) v .0)
+
+to-lt : (n : ℕ) → isTo n ≡ true → n < 32
+to-lt = below isTo 32 (λ n h. simp (ne-eqb n 0 (omega arith), ne-eqb n 31 (omega arith)))
+
+hint-lt : (op : CacheOp) (n : ℕ) → hintOk op n ≡ true → n < 32
+hint-lt CacheOp.Dcbf n v = omega (arith, ltb-true)
+hint-lt CacheOp.Dcbi n v = omega (arith, eqb-true)
+hint-lt CacheOp.Dcbt n v = omega (arith, ltb-true)
+hint-lt CacheOp.Dcbz n v = omega (arith, eqb-true)
+
+ruleset facts = (arith, ltb-true, reg-lt, spr-ok-lt, to-lt, hint-lt)
+
+-- several tests passed: each of them did
+abbrev allOf : Bool → List Bool → Bool
+allOf a [] = a
+allOf a (b ∷ bs) = allOf (a && b) bs
+
+abbrev Passed : Type 0 → List Bool → Type 0
+Passed P [] = P
+Passed P (b ∷ bs) = Passed (P × (b ≡ true)) bs
+
+passed : (a : Bool) (P : Type 0) → (a ≡ true → P) → (bs : List Bool) → allOf a bs ≡ true → Passed P bs
+passed a P f [] e = f e
+passed a P f (b ∷ bs) e = passed (a && b) (P × (b ≡ true)) (λ h. let q = both a b h in (f (q .0), q .1)) bs e
+
+ands : (a : Bool) (bs : List Bool) → allOf a bs ≡ true → Passed (a ≡ true) bs
+ands a bs e = passed a (a ≡ true) (λ h. h) bs e
+
+two : (a b : ℕ) → twoRegs a b ≡ true → (a < 32) × (b < 32)
+two a b v = let h = both (regOf a) (regOf b) v in omega facts
+
+three : (a b c : ℕ) → threeRegs a b c ≡ true → (a < 32) × (b < 32) × (c < 32)
+three a b c v = let h = ands (regOf a) (regOf b ∷ regOf c ∷ []) v in omega facts
+
+-- where the opcodes of a word lead the reader
+to-31 : (f : Fields) (xo : ℕ) → f .op ≡ 31 → f .xo ≡ xo → guessOf f ≡ arithmetic (f .x) xo f
+unfolding primary primaryRows
+to-31 f xo e h = ap (λ (n : ℕ). primary n f) e ∙ ap (λ (n : ℕ). arithmetic (f .x) n f) h
+
+to-x31 : (f : Fields) (x : ℕ) → f .op ≡ 31 → f .x ≡ x → f .xo ≡ x % 512 → guessOf f ≡ arithmetic x (x % 512) f
+to-x31 f x e g h = to-31 f (x % 512) e h ∙ ap (λ (n : ℕ). arithmetic n (x % 512) f) g
+
+to-x19 : (f : Fields) (x : ℕ) → f .op ≡ 19 → f .x ≡ x → guessOf f ≡ opcode19 x f
+unfolding primary primaryRows
+to-x19 f x e h = ap (λ (n : ℕ). primary n f) e ∙ ap (λ (n : ℕ). opcode19 n f) h
+
+to-x4 : (f : Fields) (x : ℕ) → f .op ≡ 4 → f .x ≡ x → guessOf f ≡ opcode4 x f
+unfolding primary primaryRows
+to-x4 f x e h = ap (λ (n : ℕ). primary n f) e ∙ ap (λ (n : ℕ). opcode4 n f) h
+
+-- what a table has for a word is an instruction made of the word's parts
+abbrev Makes : (Fields → Type 0) → (Fields → Instr) → Instr → Type 0
+Makes Parts at i = (f : Fields) → Parts f → at f ≡ i
+
+by-d : {op rt ra imm : ℕ} {at : Fields → Instr} {i : Instr} → Primary op at → (rt < 32) × (ra < 32) × (imm < 65536) → Makes (DParts op rt ra imm) at i → guessOf (fieldsOf (wordD op rt ra imm)) ≡ Decoded.Insn i
+by-d {op} {rt} {ra} {imm} hit h same =
+    let f = fieldsOf (wordD op rt ra imm) in
+    let p : DParts op rt ra imm f = d-parts (hit .1) h in
+    ap (λ (n : ℕ). primary n f) (p .op-is) ∙ hit .0 f ∙ ap Decoded.Insn (same f p)
+
+by-x31 : {rt ra rb x : ℕ} {at : Fields → Instr} {i : Instr} (rc : Bool) → X31 x at → (rt < 32) × (ra < 32) × (rb < 32) → Makes (XParts 31 rt ra rb x rc) at i → guessOf (fieldsOf (wordX 31 rt ra rb x rc)) ≡ Decoded.Insn i
+by-x31 {rt} {ra} {rb} {x} rc hit h same =
+    let f = fieldsOf (wordX 31 rt ra rb x rc) in
+    let p : XParts 31 rt ra rb x rc f = x-parts rc (lit< tt) (hit .1) h in
+    to-x31 f x (p .op-is) (p .x-is) (p .xo-is) ∙ hit .0 f ∙ ap Decoded.Insn (same f p)
+
+by-x19 : {rt ra rb x : ℕ} {at : Fields → Instr} {i : Instr} (rc : Bool) → X19 x at → (rt < 32) × (ra < 32) × (rb < 32) → Makes (XParts 19 rt ra rb x rc) at i → guessOf (fieldsOf (wordX 19 rt ra rb x rc)) ≡ Decoded.Insn i
+by-x19 {rt} {ra} {rb} {x} rc hit h same =
+    let f = fieldsOf (wordX 19 rt ra rb x rc) in
+    let p : XParts 19 rt ra rb x rc f = x-parts rc (lit< tt) (hit .1) h in
+    to-x19 f x (p .op-is) (p .x-is) ∙ hit .0 f ∙ ap Decoded.Insn (same f p)
+
+by-x4 : {rt ra rb x : ℕ} {at : Fields → Instr} {i : Instr} (rc : Bool) → X4 x at → (rt < 32) × (ra < 32) × (rb < 32) → Makes (XParts 4 rt ra rb x rc) at i → guessOf (fieldsOf (wordX 4 rt ra rb x rc)) ≡ Decoded.Insn i
+by-x4 {rt} {ra} {rb} {x} rc hit h same =
+    let f = fieldsOf (wordX 4 rt ra rb x rc) in
+    let p : XParts 4 rt ra rb x rc f = x-parts rc (lit< tt) (hit .1) h in
+    to-x4 f x (p .op-is) (p .x-is) ∙ hit .0 f ∙ ap Decoded.Insn (same f p)
+
+by-xo : {rt ra rb xo : ℕ} {at : Fields → Instr} {i : Instr} (oe rc : Bool) → XO31 xo at → (rt < 32) × (ra < 32) × (rb < 32) → Makes (XOParts rt ra rb oe xo rc) at i → guessOf (fieldsOf (wordXO rt ra rb oe xo rc)) ≡ Decoded.Insn i
+by-xo {rt} {ra} {rb} {xo} oe rc hit h same =
+    let f = fieldsOf (wordXO rt ra rb oe xo rc) in
+    let p : XOParts rt ra rb oe xo rc f = xo-parts oe rc (hit .1) h in
+    to-31 f xo (p .op-is) (p .xo-is) ∙ hit .0 (f .x) f ∙ ap Decoded.Insn (same f p)
+
+by-xfx : {rt x : ℕ} {at : Fields → Instr} {i : Instr} (fxm : ℕ) → X31 x at → rt < 32 → Makes (XFXParts rt x) at i → guessOf (fieldsOf (wordXFX rt fxm x)) ≡ Decoded.Insn i
+by-xfx {rt} {x} fxm hit h same =
+    let f = fieldsOf (wordXFX rt fxm x) in
+    let p : XFXParts rt x f = xfx-parts fxm (hit .1) h in
+    to-x31 f x (p .op-is) (p .x-is) (p .xo-is) ∙ hit .0 f ∙ ap Decoded.Insn (same f p)
+
+by-e : {x : ℕ} {at : Fields → Instr} {i : Instr} (e : Bool) → X31 x at → Makes (EParts e x) at i → guessOf (fieldsOf (wordE e x)) ≡ Decoded.Insn i
+by-e {x} e hit same =
+    let f = fieldsOf (wordE e x) in
+    let p : EParts e x f = e-parts e (hit .1) in
+    to-x31 f x (p .op-is) (p .x-is) (p .xo-is) ∙ hit .0 f ∙ ap Decoded.Insn (same f p)
+
+by-m : {op rs ra rb mb me : ℕ} {at : Fields → Instr} {i : Instr} (rc : Bool) → Primary op at → (rs < 32) × (ra < 32) × (rb < 32) × (mb < 32) × (me < 32) → Makes (MParts op rs ra rb mb me rc) at i → guessOf (fieldsOf (wordM op rs ra rb mb me rc)) ≡ Decoded.Insn i
+by-m {op} {rs} {ra} {rb} {mb} {me} rc hit h same =
+    let f = fieldsOf (wordM op rs ra rb mb me rc) in
+    let p : MParts op rs ra rb mb me rc f = m-parts rc (hit .1) h in
+    ap (λ (n : ℕ). primary n f) (p .op-is) ∙ hit .0 f ∙ ap Decoded.Insn (same f p)
+
+by-b : {bo bi bd : ℕ} {at : Fields → Instr} {i : Instr} (aa lk : Bool) → Primary 16 at → (bo < 32) × (bi < 32) × (bd < 16384) → Makes (BParts bo bi bd aa lk) at i → guessOf (fieldsOf (wordB bo bi bd aa lk)) ≡ Decoded.Insn i
+by-b {bo} {bi} {bd} aa lk hit h same =
+    let f = fieldsOf (wordB bo bi bd aa lk) in
+    let p : BParts bo bi bd aa lk f = b-parts aa lk h in
+    ap (λ (n : ℕ). primary n f) (p .op-is) ∙ hit .0 f ∙ ap Decoded.Insn (same f p)
+
+by-i : {li : ℕ} {at : Fields → Instr} {i : Instr} (aa lk : Bool) → Primary 18 at → li < 16777216 → Makes (IParts li aa lk) at i → guessOf (fieldsOf (wordI li aa lk)) ≡ Decoded.Insn i
+by-i {li} aa lk hit h same =
+    let f = fieldsOf (wordI li aa lk) in
+    let p : IParts li aa lk f = i-parts aa lk h in
+    ap (λ (n : ℕ). primary n f) (p .op-is) ∙ hit .0 f ∙ ap Decoded.Insn (same f p)
+
+-- what a valid instruction is written as suggests that instruction
+guess-written : (i : Instr) → validOf i ≡ true → guessOf (fieldsOf (wordOf i)) ≡ Decoded.Insn i
+guess-written (Instr.Arithmetic (Arithmetic.Immediate op rt ra si)) v =
+    let h = both (fits 16 si) (twoRegs rt ra) v in
+    let r = two rt ra (h .1) in
+    by-d (hit-arith-imm op) (omega facts) (λ f p. rw (p .rt-is, p .ra-is, p .imm-is))
+guess-written (Instr.Arithmetic (Arithmetic.Register op rt ra rb oe rc)) v = by-xo oe rc (hit-arith op) (three rt ra rb v) (λ f p. rw (p .rt-is, p .ra-is, p .rb-is, p .oe-is, p .rc-is))
+guess-written (Instr.Arithmetic (Arithmetic.One op rt ra oe rc)) v =
+    let r = two rt ra v in
+    by-xo {rb = 0} oe rc (hit-arith-one op) (omega arith) (λ f p. rw (p .rt-is, p .ra-is, p .oe-is, p .rc-is))
+guess-written (Instr.Arithmetic (Arithmetic.Multiply sign rt ra rb rc)) v = by-x4 rc (hit-multiply sign) (three rt ra rb v) (λ f p. rw (p .rt-is, p .ra-is, p .rb-is, p .rc-is))
+guess-written (Instr.Logical (Logical.Immediate op rs ra ui)) v =
+    let h = both (fits 16 ui) (twoRegs rs ra) v in
+    let r = two rs ra (h .1) in
+    by-d (hit-logic-imm op) (omega facts) (λ f p. rw (p .rt-is, p .ra-is, p .imm-is))
+guess-written (Instr.Logical (Logical.Register op rs ra rb rc)) v = by-x31 rc (hit-logic op) (three rs ra rb v) (λ f p. rw (p .rt-is, p .ra-is, p .rb-is, p .rc-is))
+guess-written (Instr.Logical (Logical.One op rs ra rc)) v =
+    let r = two rs ra v in
+    by-x31 {rb = 0} rc (hit-logic-one op) (omega arith) (λ f p. rw (p .rt-is, p .ra-is, p .rc-is))
+guess-written (Instr.Compare (Compare.Immediate sign ra imm)) v =
+    let h = both (fits 16 imm) (regOf ra) v in
+    by-d {rt = 0} (hit-compare-imm sign) (omega facts) (λ f p. rw (p .ra-is, p .imm-is))
+guess-written (Instr.Compare (Compare.Register sign ra rb)) v =
+    let r = two ra rb v in
+    by-x31 {rt = 0} false (hit-compare sign) (omega arith) (λ f p. rw (p .ra-is, p .rb-is))
+guess-written (Instr.Rotate (Rotate.Immediate op rs ra sh mb me rc)) v =
+    let h = ands (regOf rs) (regOf ra ∷ fits 5 sh ∷ fits 5 mb ∷ fits 5 me ∷ []) v in
+    by-m rc (hit-rotate-imm op) (omega facts) (λ f p. rw (p .rt-is, p .ra-is, p .rb-is, p .mb-is, p .me-is, p .rc-is))
+guess-written (Instr.Rotate (Rotate.Register rs ra rb mb me rc)) v =
+    let h = ands (regOf rs) (regOf ra ∷ regOf rb ∷ fits 5 mb ∷ fits 5 me ∷ []) v in
+    by-m rc hit-rotate (omega facts) (λ f p. rw (p .rt-is, p .ra-is, p .rb-is, p .mb-is, p .me-is, p .rc-is))
+guess-written (Instr.Rotate (Rotate.Shift op rs ra rb rc)) v = by-x31 rc (hit-shift op) (three rs ra rb v) (λ f p. rw (p .rt-is, p .ra-is, p .rb-is, p .rc-is))
+guess-written (Instr.Rotate (Rotate.Srawi rs ra sh rc)) v =
+    let h = ands (regOf rs) (regOf ra ∷ fits 5 sh ∷ []) v in
+    by-x31 rc hit-srawi (omega facts) (λ f p. rw (p .rt-is, p .ra-is, p .rb-is, p .rc-is))
+guess-written (Instr.LoadStore (LoadStore.Load width update rt ra d)) v =
+    let h = both (fits 16 d) (twoRegs rt ra && loadForm update rt ra) v in
+    let r = ands (regOf rt) (regOf ra ∷ loadForm update rt ra ∷ []) (h .1) in
+    by-d (hit-load width update) (omega facts) (λ f p. rw (p .rt-is, p .ra-is, p .imm-is))
+guess-written (Instr.LoadStore (LoadStore.LoadIndexed width rt ra rb)) v = by-x31 false (hit-load-indexed width) (three rt ra rb v) (λ f p. rw (p .rt-is, p .ra-is, p .rb-is))
+guess-written (Instr.LoadStore (LoadStore.Store width update rs ra d)) v =
+    let h = both (fits 16 d) (twoRegs rs ra && storeForm update ra) v in
+    let r = ands (regOf rs) (regOf ra ∷ storeForm update ra ∷ []) (h .1) in
+    by-d (hit-store width update) (omega facts) (λ f p. rw (p .rt-is, p .ra-is, p .imm-is))
+guess-written (Instr.LoadStore (LoadStore.StoreIndexed width rs ra rb)) v = by-x31 false (hit-store-indexed width) (three rs ra rb v) (λ f p. rw (p .rt-is, p .ra-is, p .rb-is))
+guess-written (Instr.Branch (Branch.Always aa lk li)) v = by-i aa lk hit-branch (omega facts) (λ f p. rw (p .aa-is, p .rc-is, p .li-is))
+guess-written (Instr.Branch (Branch.Conditional bo bi bd aa lk)) v =
+    let h = ands (fits 5 bo) (fits 2 bi ∷ fits 14 bd ∷ []) v in
+    by-b aa lk hit-branch-if (omega facts) (λ f p. rw (p .rt-is, p .ra-is, p .bd-is, p .aa-is, p .rc-is))
+guess-written (Instr.Branch (Branch.Register op bo bi bh lk)) v =
+    let h = ands (fits 5 bo) (fits 2 bi ∷ fits 2 bh ∷ branchForm op bo ∷ []) v in
+    by-x19 lk (hit-branch-to op) (omega facts) (λ f p. rw (p .rt-is, p .ra-is, p .rb-is, p .rc-is))
+guess-written (Instr.Trap to ra rb tg) v =
+    let h = both (isTo to) (twoRegs ra rb) v in
+    let r = two ra rb (h .1) in
+    by-x31 tg hit-trap (omega facts) (λ f p. rw (p .rt-is, p .ra-is, p .rb-is, p .rc-is))
+guess-written (Instr.System (System.Spr op rt spr)) v =
+    let h = both (regOf rt) (sprOk op spr) v in
+    let e : fieldAt 22 26 (bitsAt spr 22 26) + fieldAt 27 31 (bitsAt spr 27 31) ≡ spr = omega facts in
+    by-x31 false (hit-spr op) (omega facts) (λ f p. rw (p .rt-is, p .spr-is, e))
+guess-written (Instr.System (System.Move op rt)) v = by-xfx (moveFxm op) (hit-move op) (reg-lt rt v) (λ f p. rw (p .rt-is))
+guess-written (Instr.System (System.Wrteei e)) v = by-e e hit-wrteei (λ f p. rw (p .e-is))
+guess-written (Instr.System System.Rfi) v = by-x19 {rt = 0} {ra = 0} {rb = 0} false hit-rfi (omega arith) (λ f p. refl)
+guess-written (Instr.System System.Sync) v = by-x31 {rt = 0} {ra = 0} {rb = 0} false hit-sync (omega arith) (λ f p. refl)
+guess-written (Instr.Cache op hint ra rb) v =
+    let h = both (hintOk op hint) (twoRegs ra rb) v in
+    let r = two ra rb (h .1) in
+    by-x31 false (hit-cache op) (omega facts) (λ f p. rw (p .rt-is, p .ra-is, p .rb-is))
+
+pub written-read : (i : Instr) → validOf i ≡ true → decodeOf (wordOf i) ≡ Decoded.Insn i
+unfolding decodeOf
+written-read i v = rw (guess-written i v, v, eq-eqb (wordOf i) (wordOf i) refl)
+
+-- two valid instructions that are written as one word are the same
+pub written-once : (i j : Instr) → validOf i ≡ true → validOf j ≡ true → wordOf i ≡ wordOf j → i ≡ j
+written-once i j v u e =
+    let d : Decoded.Insn i ≡ Decoded.Insn j = sym (written-read i v) ∙ ap decodeOf e ∙ written-read j u in
+    cc
+
+-- a word is illegal exactly where no valid instruction is written as it
+pub illegal-is : (w : ℕ) → decodeOf w ≡ Decoded.Illegal → (i : Instr) → validOf i ≡ true → wordOf i ≡ w → ⊥
+illegal-is w e i v q =
+    let d : Decoded.Insn i ≡ Decoded.Illegal = sym (written-read i v) ∙ ap decodeOf q ∙ e in
+    let z : _≡_ {A = ℕ} 0 1 = cc in
+    omega arith
+
+pub illegal-if : (w : ℕ) → ((i : Instr) → validOf i ≡ true → wordOf i ≡ w → ⊥) → decodeOf w ≡ Decoded.Illegal
+illegal-if w none = go (decodeOf w) refl
+  where
+    go : (d : Decoded) → decodeOf w ≡ d → d ≡ Decoded.Illegal
+    go (Decoded.Insn i) e = let h = read-written w i e in absurd (none i (h .0) (h .1))
+    go Decoded.Illegal e = refl
