@@ -3,3 +3,4 @@ pub mod Laws
 pub mod Parts
 pub mod Hits
 pub mod Round
+pub mod Worked
