@@ -31,18 +31,19 @@ Reads found at = (f : Fields) → found f ≡ Decoded.Insn (at f)
 abbrev pub Primary : ℕ → (Fields → Instr) → Type 0
 Primary op at = Reads (primary op) at × (op < 64)
 
--- extended opcodes: of an XO form, whose bit 21 is OE, and of X forms under 31, 19 and 4
+-- an extended opcode of an XO form, whose bit 21 is OE
 abbrev pub XO31 : ℕ → (Fields → Instr) → Type 0
 XO31 xo at = ((x : ℕ) → Reads (arithmetic x xo) at) × (xo < 512)
 
+-- an extended opcode of an X form, and the tables of those under primary opcodes 31, 19 and 4
+abbrev pub Extended : (ℕ → Fields → Decoded) → ℕ → (Fields → Instr) → Type 0
+Extended table x at = Reads (table x) at × (x < 1024)
+
+abbrev pub opcode31 : ℕ → Fields → Decoded
+opcode31 x = arithmetic x (x % 512)
+
 abbrev pub X31 : ℕ → (Fields → Instr) → Type 0
-X31 x at = Reads (arithmetic x (x % 512)) at × (x < 1024)
-
-abbrev pub X19 : ℕ → (Fields → Instr) → Type 0
-X19 x at = Reads (opcode19 x) at × (x < 1024)
-
-abbrev pub X4 : ℕ → (Fields → Instr) → Type 0
-X4 x at = Reads (opcode4 x) at × (x < 1024)
+X31 = Extended opcode31
 
 pub hit-arith-imm : (op : ArithImmOp) → Primary (arithImmCode op) (arithImmAt op)
 unfolding primary primaryRows
@@ -194,16 +195,16 @@ pub hit-sync : X31 598 syncAt
 unfolding arithmetic arithmeticRows logical logicalRows storage storageRows system systemRows
 hit-sync = (λ f. refl, lit< tt)
 
-pub hit-branch-to : (op : BranchOp) → X19 (branchCode op) (branchToAt op)
+pub hit-branch-to : (op : BranchOp) → Extended opcode19 (branchCode op) (branchToAt op)
 unfolding opcode19 rows19
 hit-branch-to BranchOp.Bclr = (λ f. refl, lit< tt)
 hit-branch-to BranchOp.Bcctr = (λ f. refl, lit< tt)
 
-pub hit-rfi : X19 50 rfiAt
+pub hit-rfi : Extended opcode19 50 rfiAt
 unfolding opcode19 rows19
 hit-rfi = (λ f. refl, lit< tt)
 
-pub hit-multiply : (sign : Sign) → X4 (multiplyCode sign) (multiplyAt sign)
+pub hit-multiply : (sign : Sign) → Extended opcode4 (multiplyCode sign) (multiplyAt sign)
 unfolding opcode4 rows4
 hit-multiply Sign.Signed = (λ f. refl, lit< tt)
 hit-multiply Sign.Unsigned = (λ f. refl, lit< tt)

@@ -6,7 +6,7 @@ use Prim.Native.Nat.{ℕ, _+_, _%_, _<_, _≤_}
 use native.Mathlib.Omega.{arith}
 use native.Mathlib.Decide.{decLe}
 use native.Mathlib.Nat.{lt-of-not-le}
-use lib.Dec.{eqb, lit<}
+use lib.Dec.{eqb, ltb, lit<}
 use borrow.Author.Tests.{eqb-true, eq-eqb, lt-leb, le-leb, ne-eqb, ltb-true}
 use Rattle.word.specs.Bits.{bitsAt, fieldAt}
 use Rattle.insn.specs.Codes.{moveFxm}
@@ -27,7 +27,7 @@ use Rattle.insn.specs.declared.instr.System.{System}
 use Rattle.insn.specs.declared.instr.SprOp.{SprOp}
 use Rattle.insn.specs.declared.instr.CacheOp.{CacheOp}
 use Rattle.insn.proofs.Parts.{DParts, d-parts, XParts, x-parts, XOParts, xo-parts, XFXParts, xfx-parts, EParts, e-parts, MParts, m-parts, BParts, b-parts, IParts, i-parts}
-use Rattle.insn.proofs.Hits.{Primary, XO31, X31, X19, X4, hit-arith-imm, hit-arith, hit-arith-one, hit-multiply, hit-logic-imm, hit-logic, hit-logic-one, hit-compare-imm, hit-compare, hit-rotate-imm, hit-rotate, hit-shift, hit-srawi, hit-load, hit-load-indexed, hit-store, hit-store-indexed, hit-branch, hit-branch-if, hit-branch-to, hit-trap, hit-spr, hit-move, hit-wrteei, hit-rfi, hit-sync, hit-cache}
+use Rattle.insn.proofs.Hits.{Primary, XO31, Extended, opcode31, X31, hit-arith-imm, hit-arith, hit-arith-one, hit-multiply, hit-logic-imm, hit-logic, hit-logic-one, hit-compare-imm, hit-compare, hit-rotate-imm, hit-rotate, hit-shift, hit-srawi, hit-load, hit-load-indexed, hit-store, hit-store-indexed, hit-branch, hit-branch-if, hit-branch-to, hit-trap, hit-spr, hit-move, hit-wrteei, hit-rfi, hit-sync, hit-cache}
 
 both : (a b : Bool) → (a && b) ≡ true → (a ≡ true) × (b ≡ true)
 both true b e = (refl, e)
@@ -53,20 +53,24 @@ read-written w i e = settled-is w (guessOf (fieldsOf w)) i e
 below : (t : ℕ → Bool) (m : ℕ) → ((r : ℕ) → m ≤ r → t r ≡ false) → (r : ℕ) → t r ≡ true → r < m
 below t m big r e = elim (decLe m r) [ yes h ↦ (let b = big r h in let z : _≡_ {A = ℕ} 0 1 = cc in absurd (omega arith)) | no n ↦ lt-of-not-le n ]
 
+-- a number from m on is none below m
+far : (m n k : ℕ) → m ≤ n → ltb k m ≡ true → eqb n k ≡ false
+far m n k h l = ne-eqb n k (omega (arith, ltb-true))
+
 reg-lt : (r : ℕ) → regOf r ≡ true → r < 32
 unfolding regOf
-reg-lt = below regOf 32 (λ r h. simp (lt-leb r 10 (omega arith), ne-eqb r 13 (omega arith), le-leb 28 r (omega arith), lt-leb r 31 (omega arith)))
+reg-lt = below regOf 32 (λ r h. simp (lt-leb r 10 (omega arith), far 32, le-leb 28 r (omega arith), lt-leb r 31 (omega arith)))
 
 spr-lt : (n : ℕ) → isSpr n ≡ true → n < 1024
 unfolding isSpr
-spr-lt = below isSpr 1024 (λ n h. simp (ne-eqb n 1 (omega arith), ne-eqb n 8 (omega arith), ne-eqb n 9 (omega arith), ne-eqb n 22 (omega arith), ne-eqb n 26 (omega arith), ne-eqb n 27 (omega arith), ne-eqb n 61 (omega arith), ne-eqb n 62 (omega arith), ne-eqb n 63 (omega arith), ne-eqb n 272 (omega arith), ne-eqb n 286 (omega arith), ne-eqb n 287 (omega arith), ne-eqb n 308 (omega arith), ne-eqb n 316 (omega arith), ne-eqb n 336 (omega arith), ne-eqb n 340 (omega arith)))
+spr-lt = below isSpr 1024 (λ n h. simp (far 1024))
 
 spr-ok-lt : (op : SprOp) (n : ℕ) → sprOk op n ≡ true → n < 1024
 spr-ok-lt SprOp.Mfspr n v = spr-lt n v
 spr-ok-lt SprOp.Mtspr n v = spr-lt n (both (isSpr n) (not (readOnly n)) v .0)
 
 to-lt : (n : ℕ) → isTo n ≡ true → n < 32
-to-lt = below isTo 32 (λ n h. simp (ne-eqb n 0 (omega arith), ne-eqb n 31 (omega arith)))
+to-lt = below isTo 32 (λ n h. simp (far 32))
 
 hint-lt : (op : CacheOp) (n : ℕ) → hintOk op n ≡ true → n < 32
 hint-lt CacheOp.Dcbf n v = omega (arith, ltb-true)
@@ -98,21 +102,24 @@ two a b v = let h = both (regOf a) (regOf b) v in omega facts
 three : (a b c : ℕ) → threeRegs a b c ≡ true → (a < 32) × (b < 32) × (c < 32)
 three a b c v = let h = ands (regOf a) (regOf b ∷ regOf c ∷ []) v in omega facts
 
--- where the opcodes of a word lead the reader
+-- the words of a primary opcode are read by a table of extended ones
+abbrev Leads : ℕ → (ℕ → Fields → Decoded) → Type 0
+Leads op table = (op < 64) × ((f : Fields) (x : ℕ) → f .op ≡ op → f .x ≡ x → f .xo ≡ x % 512 → guessOf f ≡ table x f)
+
 to-31 : (f : Fields) (xo : ℕ) → f .op ≡ 31 → f .xo ≡ xo → guessOf f ≡ arithmetic (f .x) xo f
 unfolding primary primaryRows
 to-31 f xo e h = ap (λ (n : ℕ). primary n f) e ∙ ap (λ (n : ℕ). arithmetic (f .x) n f) h
 
-to-x31 : (f : Fields) (x : ℕ) → f .op ≡ 31 → f .x ≡ x → f .xo ≡ x % 512 → guessOf f ≡ arithmetic x (x % 512) f
-to-x31 f x e g h = to-31 f (x % 512) e h ∙ ap (λ (n : ℕ). arithmetic n (x % 512) f) g
+of-31 : Leads 31 opcode31
+of-31 = (lit< tt, λ f x e g h. to-31 f (x % 512) e h ∙ ap (λ (n : ℕ). arithmetic n (x % 512) f) g)
 
-to-x19 : (f : Fields) (x : ℕ) → f .op ≡ 19 → f .x ≡ x → guessOf f ≡ opcode19 x f
+of-19 : Leads 19 opcode19
 unfolding primary primaryRows
-to-x19 f x e h = ap (λ (n : ℕ). primary n f) e ∙ ap (λ (n : ℕ). opcode19 n f) h
+of-19 = (lit< tt, λ f x e g h. ap (λ (n : ℕ). primary n f) e ∙ ap (λ (n : ℕ). opcode19 n f) g)
 
-to-x4 : (f : Fields) (x : ℕ) → f .op ≡ 4 → f .x ≡ x → guessOf f ≡ opcode4 x f
+of-4 : Leads 4 opcode4
 unfolding primary primaryRows
-to-x4 f x e h = ap (λ (n : ℕ). primary n f) e ∙ ap (λ (n : ℕ). opcode4 n f) h
+of-4 = (lit< tt, λ f x e g h. ap (λ (n : ℕ). primary n f) e ∙ ap (λ (n : ℕ). opcode4 n f) g)
 
 -- what a table has for a word is an instruction made of the word's parts
 abbrev Makes : (Fields → Type 0) → (Fields → Instr) → Instr → Type 0
@@ -124,23 +131,11 @@ by-d {op} {rt} {ra} {imm} hit h same =
     let p : DParts op rt ra imm f = d-parts (hit .1) h in
     ap (λ (n : ℕ). primary n f) (p .op-is) ∙ hit .0 f ∙ ap Decoded.Insn (same f p)
 
-by-x31 : {rt ra rb x : ℕ} {at : Fields → Instr} {i : Instr} (rc : Bool) → X31 x at → (rt < 32) × (ra < 32) × (rb < 32) → Makes (XParts 31 rt ra rb x rc) at i → guessOf (fieldsOf (wordX 31 rt ra rb x rc)) ≡ Decoded.Insn i
-by-x31 {rt} {ra} {rb} {x} rc hit h same =
-    let f = fieldsOf (wordX 31 rt ra rb x rc) in
-    let p : XParts 31 rt ra rb x rc f = x-parts rc (lit< tt) (hit .1) h in
-    to-x31 f x (p .op-is) (p .x-is) (p .xo-is) ∙ hit .0 f ∙ ap Decoded.Insn (same f p)
-
-by-x19 : {rt ra rb x : ℕ} {at : Fields → Instr} {i : Instr} (rc : Bool) → X19 x at → (rt < 32) × (ra < 32) × (rb < 32) → Makes (XParts 19 rt ra rb x rc) at i → guessOf (fieldsOf (wordX 19 rt ra rb x rc)) ≡ Decoded.Insn i
-by-x19 {rt} {ra} {rb} {x} rc hit h same =
-    let f = fieldsOf (wordX 19 rt ra rb x rc) in
-    let p : XParts 19 rt ra rb x rc f = x-parts rc (lit< tt) (hit .1) h in
-    to-x19 f x (p .op-is) (p .x-is) ∙ hit .0 f ∙ ap Decoded.Insn (same f p)
-
-by-x4 : {rt ra rb x : ℕ} {at : Fields → Instr} {i : Instr} (rc : Bool) → X4 x at → (rt < 32) × (ra < 32) × (rb < 32) → Makes (XParts 4 rt ra rb x rc) at i → guessOf (fieldsOf (wordX 4 rt ra rb x rc)) ≡ Decoded.Insn i
-by-x4 {rt} {ra} {rb} {x} rc hit h same =
-    let f = fieldsOf (wordX 4 rt ra rb x rc) in
-    let p : XParts 4 rt ra rb x rc f = x-parts rc (lit< tt) (hit .1) h in
-    to-x4 f x (p .op-is) (p .x-is) ∙ hit .0 f ∙ ap Decoded.Insn (same f p)
+by-x : {op rt ra rb x : ℕ} {table : ℕ → Fields → Decoded} {at : Fields → Instr} {i : Instr} → Leads op table → (rc : Bool) → Extended table x at → (rt < 32) × (ra < 32) × (rb < 32) → Makes (XParts op rt ra rb x rc) at i → guessOf (fieldsOf (wordX op rt ra rb x rc)) ≡ Decoded.Insn i
+by-x {op} {rt} {ra} {rb} {x} leads rc hit h same =
+    let f = fieldsOf (wordX op rt ra rb x rc) in
+    let p : XParts op rt ra rb x rc f = x-parts rc (leads .0) (hit .1) h in
+    leads .1 f x (p .op-is) (p .x-is) (p .xo-is) ∙ hit .0 f ∙ ap Decoded.Insn (same f p)
 
 by-xo : {rt ra rb xo : ℕ} {at : Fields → Instr} {i : Instr} (oe rc : Bool) → XO31 xo at → (rt < 32) × (ra < 32) × (rb < 32) → Makes (XOParts rt ra rb oe xo rc) at i → guessOf (fieldsOf (wordXO rt ra rb oe xo rc)) ≡ Decoded.Insn i
 by-xo {rt} {ra} {rb} {xo} oe rc hit h same =
@@ -152,13 +147,13 @@ by-xfx : {rt x : ℕ} {at : Fields → Instr} {i : Instr} (fxm : ℕ) → X31 x 
 by-xfx {rt} {x} fxm hit h same =
     let f = fieldsOf (wordXFX rt fxm x) in
     let p : XFXParts rt x f = xfx-parts fxm (hit .1) h in
-    to-x31 f x (p .op-is) (p .x-is) (p .xo-is) ∙ hit .0 f ∙ ap Decoded.Insn (same f p)
+    of-31 .1 f x (p .op-is) (p .x-is) (p .xo-is) ∙ hit .0 f ∙ ap Decoded.Insn (same f p)
 
 by-e : {x : ℕ} {at : Fields → Instr} {i : Instr} (e : Bool) → X31 x at → Makes (EParts e x) at i → guessOf (fieldsOf (wordE e x)) ≡ Decoded.Insn i
 by-e {x} e hit same =
     let f = fieldsOf (wordE e x) in
     let p : EParts e x f = e-parts e (hit .1) in
-    to-x31 f x (p .op-is) (p .x-is) (p .xo-is) ∙ hit .0 f ∙ ap Decoded.Insn (same f p)
+    of-31 .1 f x (p .op-is) (p .x-is) (p .xo-is) ∙ hit .0 f ∙ ap Decoded.Insn (same f p)
 
 by-m : {op rs ra rb mb me : ℕ} {at : Fields → Instr} {i : Instr} (rc : Bool) → Primary op at → (rs < 32) × (ra < 32) × (rb < 32) × (mb < 32) × (me < 32) → Makes (MParts op rs ra rb mb me rc) at i → guessOf (fieldsOf (wordM op rs ra rb mb me rc)) ≡ Decoded.Insn i
 by-m {op} {rs} {ra} {rb} {mb} {me} rc hit h same =
@@ -188,64 +183,64 @@ guess-written (Instr.Arithmetic (Arithmetic.Register op rt ra rb oe rc)) v = by-
 guess-written (Instr.Arithmetic (Arithmetic.One op rt ra oe rc)) v =
     let r = two rt ra v in
     by-xo {rb = 0} oe rc (hit-arith-one op) (omega arith) (λ f p. rw (p .rt-is, p .ra-is, p .oe-is, p .rc-is))
-guess-written (Instr.Arithmetic (Arithmetic.Multiply sign rt ra rb rc)) v = by-x4 rc (hit-multiply sign) (three rt ra rb v) (λ f p. rw (p .rt-is, p .ra-is, p .rb-is, p .rc-is))
+guess-written (Instr.Arithmetic (Arithmetic.Multiply sign rt ra rb rc)) v = by-x of-4 rc (hit-multiply sign) (three rt ra rb v) (λ f p. rw (p .rt-is, p .ra-is, p .rb-is, p .rc-is))
 guess-written (Instr.Logical (Logical.Immediate op rs ra ui)) v =
     let h = both (fits 16 ui) (twoRegs rs ra) v in
     let r = two rs ra (h .1) in
     by-d (hit-logic-imm op) (omega facts) (λ f p. rw (p .rt-is, p .ra-is, p .imm-is))
-guess-written (Instr.Logical (Logical.Register op rs ra rb rc)) v = by-x31 rc (hit-logic op) (three rs ra rb v) (λ f p. rw (p .rt-is, p .ra-is, p .rb-is, p .rc-is))
+guess-written (Instr.Logical (Logical.Register op rs ra rb rc)) v = by-x of-31 rc (hit-logic op) (three rs ra rb v) (λ f p. rw (p .rt-is, p .ra-is, p .rb-is, p .rc-is))
 guess-written (Instr.Logical (Logical.One op rs ra rc)) v =
     let r = two rs ra v in
-    by-x31 {rb = 0} rc (hit-logic-one op) (omega arith) (λ f p. rw (p .rt-is, p .ra-is, p .rc-is))
+    by-x {rb = 0} of-31 rc (hit-logic-one op) (omega arith) (λ f p. rw (p .rt-is, p .ra-is, p .rc-is))
 guess-written (Instr.Compare (Compare.Immediate sign ra imm)) v =
     let h = both (fits 16 imm) (regOf ra) v in
     by-d {rt = 0} (hit-compare-imm sign) (omega facts) (λ f p. rw (p .ra-is, p .imm-is))
 guess-written (Instr.Compare (Compare.Register sign ra rb)) v =
     let r = two ra rb v in
-    by-x31 {rt = 0} false (hit-compare sign) (omega arith) (λ f p. rw (p .ra-is, p .rb-is))
+    by-x {rt = 0} of-31 false (hit-compare sign) (omega arith) (λ f p. rw (p .ra-is, p .rb-is))
 guess-written (Instr.Rotate (Rotate.Immediate op rs ra sh mb me rc)) v =
     let h = ands (regOf rs) (regOf ra ∷ fits 5 sh ∷ fits 5 mb ∷ fits 5 me ∷ []) v in
     by-m rc (hit-rotate-imm op) (omega facts) (λ f p. rw (p .rt-is, p .ra-is, p .rb-is, p .mb-is, p .me-is, p .rc-is))
 guess-written (Instr.Rotate (Rotate.Register rs ra rb mb me rc)) v =
     let h = ands (regOf rs) (regOf ra ∷ regOf rb ∷ fits 5 mb ∷ fits 5 me ∷ []) v in
     by-m rc hit-rotate (omega facts) (λ f p. rw (p .rt-is, p .ra-is, p .rb-is, p .mb-is, p .me-is, p .rc-is))
-guess-written (Instr.Rotate (Rotate.Shift op rs ra rb rc)) v = by-x31 rc (hit-shift op) (three rs ra rb v) (λ f p. rw (p .rt-is, p .ra-is, p .rb-is, p .rc-is))
+guess-written (Instr.Rotate (Rotate.Shift op rs ra rb rc)) v = by-x of-31 rc (hit-shift op) (three rs ra rb v) (λ f p. rw (p .rt-is, p .ra-is, p .rb-is, p .rc-is))
 guess-written (Instr.Rotate (Rotate.Srawi rs ra sh rc)) v =
     let h = ands (regOf rs) (regOf ra ∷ fits 5 sh ∷ []) v in
-    by-x31 rc hit-srawi (omega facts) (λ f p. rw (p .rt-is, p .ra-is, p .rb-is, p .rc-is))
+    by-x of-31 rc hit-srawi (omega facts) (λ f p. rw (p .rt-is, p .ra-is, p .rb-is, p .rc-is))
 guess-written (Instr.LoadStore (LoadStore.Load width update rt ra d)) v =
     let h = both (fits 16 d) (twoRegs rt ra && loadForm update rt ra) v in
     let r = ands (regOf rt) (regOf ra ∷ loadForm update rt ra ∷ []) (h .1) in
     by-d (hit-load width update) (omega facts) (λ f p. rw (p .rt-is, p .ra-is, p .imm-is))
-guess-written (Instr.LoadStore (LoadStore.LoadIndexed width rt ra rb)) v = by-x31 false (hit-load-indexed width) (three rt ra rb v) (λ f p. rw (p .rt-is, p .ra-is, p .rb-is))
+guess-written (Instr.LoadStore (LoadStore.LoadIndexed width rt ra rb)) v = by-x of-31 false (hit-load-indexed width) (three rt ra rb v) (λ f p. rw (p .rt-is, p .ra-is, p .rb-is))
 guess-written (Instr.LoadStore (LoadStore.Store width update rs ra d)) v =
     let h = both (fits 16 d) (twoRegs rs ra && storeForm update ra) v in
     let r = ands (regOf rs) (regOf ra ∷ storeForm update ra ∷ []) (h .1) in
     by-d (hit-store width update) (omega facts) (λ f p. rw (p .rt-is, p .ra-is, p .imm-is))
-guess-written (Instr.LoadStore (LoadStore.StoreIndexed width rs ra rb)) v = by-x31 false (hit-store-indexed width) (three rs ra rb v) (λ f p. rw (p .rt-is, p .ra-is, p .rb-is))
+guess-written (Instr.LoadStore (LoadStore.StoreIndexed width rs ra rb)) v = by-x of-31 false (hit-store-indexed width) (three rs ra rb v) (λ f p. rw (p .rt-is, p .ra-is, p .rb-is))
 guess-written (Instr.Branch (Branch.Always aa lk li)) v = by-i aa lk hit-branch (omega facts) (λ f p. rw (p .aa-is, p .rc-is, p .li-is))
 guess-written (Instr.Branch (Branch.Conditional bo bi bd aa lk)) v =
     let h = ands (fits 5 bo) (fits 2 bi ∷ fits 14 bd ∷ []) v in
     by-b aa lk hit-branch-if (omega facts) (λ f p. rw (p .rt-is, p .ra-is, p .bd-is, p .aa-is, p .rc-is))
 guess-written (Instr.Branch (Branch.Register op bo bi bh lk)) v =
     let h = ands (fits 5 bo) (fits 2 bi ∷ fits 2 bh ∷ branchForm op bo ∷ []) v in
-    by-x19 lk (hit-branch-to op) (omega facts) (λ f p. rw (p .rt-is, p .ra-is, p .rb-is, p .rc-is))
+    by-x of-19 lk (hit-branch-to op) (omega facts) (λ f p. rw (p .rt-is, p .ra-is, p .rb-is, p .rc-is))
 guess-written (Instr.Trap to ra rb tg) v =
     let h = both (isTo to) (twoRegs ra rb) v in
     let r = two ra rb (h .1) in
-    by-x31 tg hit-trap (omega facts) (λ f p. rw (p .rt-is, p .ra-is, p .rb-is, p .rc-is))
+    by-x of-31 tg hit-trap (omega facts) (λ f p. rw (p .rt-is, p .ra-is, p .rb-is, p .rc-is))
 guess-written (Instr.System (System.Spr op rt spr)) v =
     let h = both (regOf rt) (sprOk op spr) v in
     let e : fieldAt 22 26 (bitsAt spr 22 26) + fieldAt 27 31 (bitsAt spr 27 31) ≡ spr = omega facts in
-    by-x31 false (hit-spr op) (omega facts) (λ f p. rw (p .rt-is, p .spr-is, e))
+    by-x of-31 false (hit-spr op) (omega facts) (λ f p. rw (p .rt-is, p .spr-is, e))
 guess-written (Instr.System (System.Move op rt)) v = by-xfx (moveFxm op) (hit-move op) (reg-lt rt v) (λ f p. rw (p .rt-is))
 guess-written (Instr.System (System.Wrteei e)) v = by-e e hit-wrteei (λ f p. rw (p .e-is))
-guess-written (Instr.System System.Rfi) v = by-x19 {rt = 0} {ra = 0} {rb = 0} false hit-rfi (omega arith) (λ f p. refl)
-guess-written (Instr.System System.Sync) v = by-x31 {rt = 0} {ra = 0} {rb = 0} false hit-sync (omega arith) (λ f p. refl)
+guess-written (Instr.System System.Rfi) v = by-x {rt = 0} {ra = 0} {rb = 0} of-19 false hit-rfi (omega arith) (λ f p. refl)
+guess-written (Instr.System System.Sync) v = by-x {rt = 0} {ra = 0} {rb = 0} of-31 false hit-sync (omega arith) (λ f p. refl)
 guess-written (Instr.Cache op hint ra rb) v =
     let h = both (hintOk op hint) (twoRegs ra rb) v in
     let r = two ra rb (h .1) in
-    by-x31 false (hit-cache op) (omega facts) (λ f p. rw (p .rt-is, p .ra-is, p .rb-is))
+    by-x of-31 false (hit-cache op) (omega facts) (λ f p. rw (p .rt-is, p .ra-is, p .rb-is))
 
 pub written-read : (i : Instr) → validOf i ≡ true → decodeOf (wordOf i) ≡ Decoded.Insn i
 unfolding decodeOf
