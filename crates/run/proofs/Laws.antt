@@ -1,17 +1,21 @@
--- Laws of the run, one step on and at its ends, and of the event list, one byte on. Assumes nothing.
+-- Laws of the run, one step on and at its ends, of the event list, one byte on, and of a step that is refused. Assumes nothing.
 use Prim.Native.Nat.{ℕ, zero, suc, _+_, _-_, _≤_, _<_}
 use native.Mathlib.Omega.{arith}
 use native.Mathlib.Numerals.{add-one}
-use mathlib.Core.Bool.{true, false}
-use mathlib.Core.Path.{_≡_, refl}
+use mathlib.Core.Bool.{Bool, true, false, not}
+use mathlib.Core.Path.{_≡_, refl, subst}
 use mathlib.Core.List.{List, [], _∷_}
+use lib.Dec.{T as Holds}
 use lib.ListN.{length, getD, drop, drop-of-length-le}
 use lib.Seq.{drop-cons}
 use borrow.Author.Tests.{eq-eqb, ne-eqb, lt-ltb, le-ltb}
+use Rattle.memory.specs.Access.{pick}
 use Rattle.machine.specs.declared.state.State.{State}
+use Rattle.machine.specs.declared.refusal.Refusal.{Refusal}
+use Rattle.machine.specs.Refusal.{acceptsOf}
 use Rattle.machine.specs.Step.{stepOf}
-use Rattle.run.specs.Run.{runOf}
-use Rattle.run.specs.Outcome.{eventsGood}
+use Rattle.run.specs.Run.{Ran, runOf}
+use Rattle.run.specs.Outcome.{eventsGood, accepted, refusedWith, answered, stepRefusal, stepOutcome}
 
 module _ (ev : List ℕ) (s : State) (m : List ℕ) where
   pub run-more : (b i : ℕ) → i < b → s .halt ≡ 0
@@ -49,3 +53,12 @@ bad-here ev i h l = rw (drop-cons ev i 0 h, le-ltb (getD ev i 0) 64 l)
 pub good-end : (ev : List ℕ) (i : ℕ) → length ev ≤ i → eventsGood (drop i ev) ≡ true
 unfolding eventsGood
 good-end ev i h = rw (drop-of-length-le ev h)
+
+refused-kept : (s : State) (r : Refusal) (ran : Ran) (b : Bool) → acceptsOf r ≡ b → Holds (not (acceptsOf (answered r s ran .refusal))) → s ≡ answered r s ran .state
+refused-kept s r ran true e h = absurd (subst (λ (b : Bool). Holds (not (acceptsOf (pick b (accepted ran) (refusedWith s r) .refusal)))) e h)
+refused-kept s r ran false e h = rw e
+
+-- a refused step leaves the state
+pub refused-state : (s : State) (m : List ℕ) (e : ℕ) → Holds (not (acceptsOf (stepOutcome s m e .refusal))) → s ≡ stepOutcome s m e .state
+unfolding stepOutcome
+refused-state s m e h = refused-kept s (stepRefusal s m e) (runOf 1 0 (e ∷ []) s m) (acceptsOf (stepRefusal s m e)) refl h

@@ -1,0 +1,53 @@
+// The single step over a lent state.
+ghost use mathlib.Core.Path.{_≡_};
+ghost use Rattle.machine.specs.Refusal.{acceptsOf};
+ghost use Rattle.run.specs.Lent.{answerOf};
+ghost use Rattle.run.specs.Outcome.{stepOutcome, stepMemory};
+use crate::outcome::Outcome;
+use crate::run::step;
+use machine::refusal::Refusal;
+use machine::refusal::accepts;
+use machine::state::State;
+
+// An outcome less its state, which is left where it was lent.
+pub struct Answer {
+    pub refusal: Refusal,
+    pub halt: u32,
+    pub steps: u32,
+}
+
+fn answer_of(outcome: Outcome) -> Answer
+    ensures { λ r. ⌜ r ≡ answerOf outcome ⌝ }
+{
+    let refusal = outcome.refusal;
+    Answer {
+        refusal,
+        halt: outcome.halt,
+        steps: outcome.steps,
+    }
+}
+
+fn accepted(outcome: Outcome) -> bool
+    ensures { λ r. ⌜ r ≡ acceptsOf (outcome .refusal) ⌝ }
+{
+    let refusal = outcome.refusal;
+    accepts(refusal)
+}
+
+fn state_of(outcome: Outcome) -> State
+    ensures { λ r. ⌜ r ≡ outcome .state ⌝ }
+{
+    outcome.state
+}
+
+// A refused step stores nothing.
+pub fn step_lent(state: &mut State, mem: &mut [u8], event: u8) -> Answer
+    ensures { λ r. ⌜ (r ≡ answerOf (stepOutcome (now (state .entry)) (now (mem .entry)) event)) × ((now (state .exit) ≡ stepOutcome (now (state .entry)) (now (mem .entry)) event .state) × (now (mem .exit) ≡ stepMemory (now (state .entry)) (now (mem .entry)) event)) ⌝ }
+{
+    let outcome = step(*state, mem, event);
+    let answer = answer_of(outcome);
+    if accepted(outcome) {
+        *state = state_of(outcome);
+    }
+    answer
+}
