@@ -124,7 +124,7 @@ pub step-accepted : (s : State) (m : List ℕ) (e : ℕ) → refusalOf s ≡ Ref
 step-accepted s m e h = sound-accepted (step-left s m e .st (accepted-sound s h))
 
 -- two checks in a row that refuse nothing
-first-none : (a b : Refusal) → orElse a b ≡ Refusal.None → a ≡ Refusal.None
+pub first-none : (a b : Refusal) → orElse a b ≡ Refusal.None → a ≡ Refusal.None
 first-none Refusal.None b h = refl
 first-none Refusal.Memory b h = h
 first-none Refusal.Iar b h = h
@@ -134,7 +134,7 @@ first-none Refusal.Events b h = h
 first-none Refusal.Capture b h = h
 first-none Refusal.Output b h = h
 
-second-none : (a b : Refusal) → orElse a b ≡ Refusal.None → b ≡ Refusal.None
+pub second-none : (a b : Refusal) → orElse a b ≡ Refusal.None → b ≡ Refusal.None
 second-none a b h = rw (first-none a b h) at h
 
 module _ (n i : ℕ) (ev : List ℕ) (s : State) (m : List ℕ) where

@@ -9,7 +9,9 @@ use Rattle.insn.specs.declared.instr.Decoded.{Decoded}
 use Rattle.insn.specs.declared.instr.Written.{Written}
 use Rattle.machine.specs.declared.state.State.{State}
 use Rattle.run.specs.Outcome.{runOutcome, runMemory, stepOutcome, stepMemory}
+use Rattle.run.specs.Lent.{answerOf}
 use Rattle.run.specs.declared.outcome.Outcome.{Outcome}
+use Rattle.run.specs.declared.lent.Answer.{Answer}
 use Rattle.capture.specs.Read.{readOf, partOf}
 use Rattle.capture.specs.Write.{writtenOf as captureWritten, outOf}
 use Rattle.capture.specs.declared.read.Read.{Read}
@@ -37,6 +39,11 @@ module _ (s : State) (m : List ℕ) where
   pub step-determined : (e : ℕ) (r q : Outcome) (m′ n′ : List ℕ)
       → (r ≡ stepOutcome s m e) × (m′ ≡ stepMemory s m e) → (q ≡ stepOutcome s m e) × (n′ ≡ stepMemory s m e) → (r ≡ q) × (m′ ≡ n′)
   step-determined e r q m′ n′ = two
+
+  pub lent-determined : (e : ℕ) (r q : Answer) (s′ t′ : State) (m′ n′ : List ℕ)
+      → (r ≡ answerOf (stepOutcome s m e)) × ((s′ ≡ stepOutcome s m e .state) × (m′ ≡ stepMemory s m e)) → (q ≡ answerOf (stepOutcome s m e)) × ((t′ ≡ stepOutcome s m e .state) × (n′ ≡ stepMemory s m e))
+      → (r ≡ q) × ((s′ ≡ t′) × (m′ ≡ n′))
+  lent-determined e r q s′ t′ m′ n′ a b = (one (a .0) (b .0), two (a .1) (b .1))
 
   pub capture-write-determined : (out : List ℕ) (r q : CaptureWritten) (o′ p′ : List ℕ)
       → (r ≡ captureWritten s m out) × (o′ ≡ outOf s m out) → (q ≡ captureWritten s m out) × (p′ ≡ outOf s m out) → (r ≡ q) × (o′ ≡ p′)

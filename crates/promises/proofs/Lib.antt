@@ -7,3 +7,4 @@ pub mod Clean
 pub mod Sound
 pub mod Accepted
 pub mod Determined
+pub mod Lent

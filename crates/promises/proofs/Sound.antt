@@ -69,11 +69,11 @@ pub picked : {A : Type 0} (P : A → Type 0) {x y : A} (b : Bool) → P x → P 
 picked P true p q = p
 picked P false p q = q
 
-and-left : (a b : Bool) → (a && b) ≡ true → a ≡ true
+pub and-left : (a b : Bool) → (a && b) ≡ true → a ≡ true
 and-left true b h = refl
 and-left false b h = h
 
-and-right : (a b : Bool) → (a && b) ≡ true → b ≡ true
+pub and-right : (a b : Bool) → (a && b) ≡ true → b ≡ true
 and-right true b h = h
 and-right false b h = never (sym h)
 

@@ -1,11 +1,21 @@
--- What a lent step answers and leaves: what the step by value answers and leaves.
-use Prim.Native.Nat.{ℕ}
+-- The single step over a lent state, and a loop that lends it.
+use Prim.Native.Nat.{ℕ, zero, suc, _+_}
 use mathlib.Core.List.{List}
+use lib.ListN.{getD}
 use Rattle.machine.specs.declared.state.State.{State}
-use Rattle.run.specs.Outcome.{stepOutcome}
+use Rattle.run.specs.Run.{Ran}
+use Rattle.run.specs.Outcome.{stepOutcome, stepMemory}
 use Rattle.run.specs.declared.outcome.Outcome.{Outcome}
 use Rattle.run.specs.declared.lent.Answer.{Answer}
 
--- the outcome less its state
+-- an outcome less its state
 abbrev pub answerOf : Outcome → Answer
 answerOf o = record { refusal = o .refusal; halt = o .halt; steps = o .steps }
+
+-- n turns of such a loop, from turn i on: each lends what the one before left, and the answers' steps are added up
+unfoldable pub lentOf : ℕ → ℕ → List ℕ → State → List ℕ → Ran
+lentOf zero i ev s m = record { st = s; mem = m; steps = 0 }
+lentOf (suc n) i ev s m =
+    let o = stepOutcome s m (getD ev i 0) in
+    let r = lentOf n (suc i) ev (o .state) (stepMemory s m (getD ev i 0)) in
+    record { st = r .st; mem = r .mem; steps = answerOf o .steps + r .steps }
