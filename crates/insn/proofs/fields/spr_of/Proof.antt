@@ -28,7 +28,7 @@ cast-result c = search needs
 
 -- src/fields.rt:52:1
 returns : tie.Need-returns
-returns c = cc
+returns c = rw (c .field-at2 .ensures, c .before .bits-at2 .ensures, c .before .before .field-at .ensures, c .before .before .before .bits-at .ensures)
 
 pub spr-of-spec : {M : Type 1} → statement M
 spr-of-spec =
