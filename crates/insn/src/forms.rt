@@ -17,7 +17,7 @@ use word::bits::Bit;
 use word::bits::bits_at;
 use word::width::Width;
 
-fn written(valid: bool, word: u32) -> Written
+pub fn written(valid: bool, word: u32) -> Written
     ensures { λ r. ⌜ r ≡ writtenIf valid word ⌝ }
 {
     if valid {

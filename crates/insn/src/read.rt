@@ -1,12 +1,17 @@
 // A word as its instruction, or illegal: its opcodes suggest a form and a mnemonic, its parts the operands; what they make is
 // written back, and read only if it is valid and gives the same word.
 ghost use mathlib.Core.Path.{_≡_};
+ghost use Rattle.insn.specs.Codes.{arithCode, logicCode};
 ghost use Rattle.insn.specs.Write.{writtenOf};
 ghost use Rattle.insn.specs.Read.{settleOf, settled, decodeOf, primary, loadStore, opcode4, opcode19, arithmetic, logical, storage, system, arithImmAt, arithAt, arithOneAt, multiplyAt, logicImmAt, logicAt, logicOneAt, compareImmAt, compareAt, rotateImmAt, rotateAt, shiftAt, srawiAt, loadAt, loadIndexedAt, storeAt, storeIndexedAt, branchAt, branchIfAt, branchToAt, trapAt, moveSprAt, moveRegAt, wrteeiAt, rfiAt, syncAt, cacheAt};
 use crate::fields::Fields;
 use crate::fields::fields_of;
+use crate::fields::word_x;
+use crate::fields::word_xo;
 use crate::forms;
+use crate::forms::written;
 use crate::instr::*;
+use crate::valid::three_defined;
 use word::width::Width;
 
 pub fn read(word: u32) -> Decoded
@@ -201,6 +206,7 @@ fn arith_imm(f: Fields, op: ArithImmOp) -> Decoded
 }
 
 fn arith(f: Fields, op: ArithOp) -> Decoded
+    requires { ⌜ f .xo ≡ arithCode op ⌝ }
     ensures { λ r. ⌜ r ≡ settleOf (f .word) (arithAt op f) ⌝ }
 {
     let i = Instr::Arithmetic(Arithmetic::Register {
@@ -211,7 +217,9 @@ fn arith(f: Fields, op: ArithOp) -> Decoded
         oe: f.oe,
         rc: f.rc,
     });
-    settle(f.word, i, forms::arith(op, f.rt, f.ra, f.rb, f.oe, f.rc))
+    let valid = three_defined(f.rt, f.ra, f.rb);
+    let word = word_xo(f.rt, f.ra, f.rb, f.oe, f.xo as u32, f.rc);
+    settle(f.word, i, written(valid, word))
 }
 
 fn arith_one(f: Fields, op: ArithOneOp) -> Decoded
@@ -252,7 +260,9 @@ fn logic_imm(f: Fields, op: LogicImmOp) -> Decoded
     settle(f.word, i, forms::logic_imm(op, f.rt, f.ra, f.imm))
 }
 
+// A word has the mnemonic's own opcode already.
 fn logic(f: Fields, op: LogicOp) -> Decoded
+    requires { ⌜ f .x ≡ logicCode op ⌝ }
     ensures { λ r. ⌜ r ≡ settleOf (f .word) (logicAt op f) ⌝ }
 {
     let i = Instr::Logical(Logical::Register {
@@ -262,7 +272,9 @@ fn logic(f: Fields, op: LogicOp) -> Decoded
         rb: f.rb,
         rc: f.rc,
     });
-    settle(f.word, i, forms::logic(op, f.rt, f.ra, f.rb, f.rc))
+    let valid = three_defined(f.rt, f.ra, f.rb);
+    let word = word_x(31, f.rt, f.ra, f.rb, f.x as u32, f.rc);
+    settle(f.word, i, written(valid, word))
 }
 
 fn logic_one(f: Fields, op: LogicOneOp) -> Decoded

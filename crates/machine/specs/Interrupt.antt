@@ -88,9 +88,12 @@ codeOf Halt.Reset = 5
 unfoldable pub haltedOf : State → Halt → State
 haltedOf s h = with s Reg.Halt (codeOf h)
 
--- a synchronous interrupt: taken if MSR[UIE] (15), else promoted to a machine check if MSR[ME] (19), else the core halts at the interrupt's own vector
+-- taken if MSR[UIE] (15), else promoted to a machine check if MSR[ME] (19), else the core halts at the interrupt's own vector
+unfoldable pub takenFor : State → Cause → State
+takenFor s c =
+    pick (bitAt (s .msr) 15) (enteredOf s (vectorFor c))
+    (pick (bitAt (s .msr) 19) (enteredOf (promotedOf s c) Vector.MachineCheck) (haltedOf (enteredOf s (vectorFor c)) Halt.MachineCheck))
+
+-- a synchronous interrupt
 unfoldable pub interruptedOf : State → Cause → State
-interruptedOf s c =
-    pick (bitAt (s .msr) 15) (enteredOf (notedOf s c) (vectorFor c))
-    (pick (bitAt (s .msr) 19) (enteredOf (promotedOf (notedOf s c) c) Vector.MachineCheck)
-    (haltedOf (enteredOf (notedOf s c) (vectorFor c)) Halt.MachineCheck))
+interruptedOf s c = takenFor (notedOf s c) c

@@ -1,7 +1,6 @@
 // The cache instructions: only dcbz does anything.
 ghost use mathlib.Core.Path.{_≡_};
 ghost use Rattle.machine.specs.Cache.{clearAt, cacheOf};
-use crate::interrupt::Cause;
 use crate::state::State;
 use insn::instr::CacheOp;
 use memory::access::Access;
@@ -14,14 +13,8 @@ impl State {
         let done = store::clear(mem, ea);
         match done {
             Access::Served => self.next(),
-            Access::Unaligned => self.interrupt(Cause::Alignment {
-                address: ea,
-                store: true,
-            }),
-            Access::Outside => self.interrupt(Cause::DataStorage {
-                address: ea,
-                store: true,
-            }),
+            Access::Unaligned => self.alignment(ea, true),
+            Access::Outside => self.data_storage(ea, true),
         }
     }
 

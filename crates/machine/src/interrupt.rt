@@ -1,7 +1,8 @@
 // Interrupt entry, promotion and the halt.
 ghost use mathlib.Core.Path.{_≡_};
 ghost use Prim.Native.Nat.{_<_};
-ghost use Rattle.machine.specs.Interrupt.{offsetOf, vectorAt, keptOf, enteredOf, vectorFor, accessNoted, programNoted, notedOf, promotionOf, promotedOf, codeOf, haltedOf, interruptedOf};
+ghost use Rattle.machine.specs.declared.interrupt.Cause.{Cause};
+ghost use Rattle.machine.specs.Interrupt.{offsetOf, vectorAt, keptOf, enteredOf, vectorFor, accessNoted, programNoted, promotionOf, promotedOf, codeOf, haltedOf, takenFor, interruptedOf};
 use crate::state::Reg;
 use crate::state::State;
 use word::bits::Bit;
@@ -155,18 +156,6 @@ impl State {
         self.set(Reg::Isr, isr).set(Reg::Edr, word)
     }
 
-    // ISR and EDR as the interrupt itself sets them.
-    fn note(self, c: Cause) -> State
-        ensures { λ r. ⌜ r ≡ notedOf self c ⌝ }
-    {
-        match c {
-            Cause::DataStorage { address, store } => self.note_access(address, store),
-            Cause::InstructionStorage => self,
-            Cause::Alignment { address, store } => self.note_access(address, store),
-            Cause::Program { word, trap } => self.note_program(word, trap),
-        }
-    }
-
     // ISR[MFE] and ISR[MCS] of an interrupt that becomes a machine check.
     fn promote(self, c: Cause) -> State
         ensures { λ r. ⌜ r ≡ promotedOf self c ⌝ }
@@ -182,19 +171,43 @@ impl State {
         self.set(Reg::Halt, code(h))
     }
 
-    // A synchronous interrupt: taken, promoted to a machine check, or halting.
-    pub fn interrupt(self, c: Cause) -> State
-        ensures { λ r. ⌜ r ≡ interruptedOf self c ⌝ }
+    // A synchronous interrupt whose ISR and EDR are noted: taken, promoted to a machine check, or halting.
+    fn take(self, c: Cause) -> State
+        ensures { λ r. ⌜ r ≡ takenFor self c ⌝ }
     {
-        let uie = bit_at(self.msr, Bit(15));
-        let me = bit_at(self.msr, Bit(19));
-        let noted = self.note(c);
-        if uie {
-            return noted.enter(vector_for(c));
+        if bit_at(self.msr, Bit(15)) {
+            return self.enter(vector_for(c));
         }
-        if me {
-            return noted.promote(c).enter(Vector::MachineCheck);
+        if bit_at(self.msr, Bit(19)) {
+            return self.promote(c).enter(Vector::MachineCheck);
         }
-        noted.enter(vector_for(c)).stop(Halt::MachineCheck)
+        self.enter(vector_for(c)).stop(Halt::MachineCheck)
+    }
+
+    pub fn data_storage(self, address: u32, store: bool) -> State
+        ensures { λ r. ⌜ r ≡ interruptedOf self (Cause.DataStorage address store) ⌝ }
+    {
+        self.note_access(address, store)
+            .take(Cause::DataStorage { address, store })
+    }
+
+    pub fn instruction_storage(self) -> State
+        ensures { λ r. ⌜ r ≡ interruptedOf self Cause.InstructionStorage ⌝ }
+    {
+        self.take(Cause::InstructionStorage)
+    }
+
+    pub fn alignment(self, address: u32, store: bool) -> State
+        ensures { λ r. ⌜ r ≡ interruptedOf self (Cause.Alignment address store) ⌝ }
+    {
+        self.note_access(address, store)
+            .take(Cause::Alignment { address, store })
+    }
+
+    pub fn program(self, word: u32, trap: bool) -> State
+        ensures { λ r. ⌜ r ≡ interruptedOf self (Cause.Program word trap) ⌝ }
+    {
+        self.note_program(word, trap)
+            .take(Cause::Program { word, trap })
     }
 }

@@ -1,7 +1,6 @@
 // Loads and stores. An access that is not served changes nothing but what its interrupt sets.
 ghost use mathlib.Core.Path.{_≡_};
-ghost use Rattle.machine.specs.LoadStore.{offsetEa, indexedEa, updatedOf, loadAt, storeAt, loadStoreOf};
-use crate::interrupt::Cause;
+ghost use Rattle.machine.specs.LoadStore.{offsetEa, indexedEa, updatedOf, loadedState, storedState, loadStoreOf};
 use crate::state::State;
 use insn::instr::LoadStore;
 use memory::access::Access;
@@ -32,38 +31,24 @@ impl State {
         if update { self.set_reg(ra, ea) } else { self }
     }
 
-    fn load_at(self, mem: &[u8], width: Width, rt: u8, ea: u32, update: bool, ra: u8) -> State
-        ensures { λ r. ⌜ r ≡ loadAt self (now (mem .entry)) width rt ea update ra .st ⌝ }
+    // The value in RT, or the interrupt.
+    fn loaded(self, got: Loaded, rt: u8, update: bool, ra: u8, ea: u32) -> State
+        ensures { λ r. ⌜ r ≡ loadedState self got rt update ra ea ⌝ }
     {
-        let got = load::load(mem, ea, width);
         match got {
             Loaded::Value(v) => self.update(update, ra, ea).set_reg(rt, v).next(),
-            Loaded::Unaligned => self.interrupt(Cause::Alignment {
-                address: ea,
-                store: false,
-            }),
-            Loaded::Outside => self.interrupt(Cause::DataStorage {
-                address: ea,
-                store: false,
-            }),
+            Loaded::Unaligned => self.alignment(ea, false),
+            Loaded::Outside => self.data_storage(ea, false),
         }
     }
 
-    fn store_at(self, mem: &mut [u8], width: Width, rs: u8, ea: u32, update: bool, ra: u8) -> State
-        ensures { λ r. ⌜ (r ≡ storeAt self (now (mem .entry)) width rs ea update ra .st) × (now (mem .exit) ≡ storeAt self (now (mem .entry)) width rs ea update ra .mem) ⌝ }
+    fn stored(self, done: Access, update: bool, ra: u8, ea: u32) -> State
+        ensures { λ r. ⌜ r ≡ storedState self done update ra ea ⌝ }
     {
-        let v = self.reg(rs);
-        let done = store::store(mem, ea, width, v);
         match done {
             Access::Served => self.update(update, ra, ea).next(),
-            Access::Unaligned => self.interrupt(Cause::Alignment {
-                address: ea,
-                store: true,
-            }),
-            Access::Outside => self.interrupt(Cause::DataStorage {
-                address: ea,
-                store: true,
-            }),
+            Access::Unaligned => self.alignment(ea, true),
+            Access::Outside => self.data_storage(ea, true),
         }
     }
 
@@ -79,11 +64,11 @@ impl State {
                 d,
             } => {
                 let ea = self.offset_ea(ra, d);
-                self.load_at(&mem[..], width, rt, ea, update, ra)
+                self.loaded(load::load(&mem[..], ea, width), rt, update, ra, ea)
             }
             LoadStore::LoadIndexed { width, rt, ra, rb } => {
                 let ea = self.indexed_ea(ra, rb);
-                self.load_at(&mem[..], width, rt, ea, false, ra)
+                self.loaded(load::load(&mem[..], ea, width), rt, false, ra, ea)
             }
             LoadStore::Store {
                 width,
@@ -93,11 +78,13 @@ impl State {
                 d,
             } => {
                 let ea = self.offset_ea(ra, d);
-                self.store_at(mem, width, rs, ea, update, ra)
+                let done = store::store(mem, ea, width, self.reg(rs));
+                self.stored(done, update, ra, ea)
             }
             LoadStore::StoreIndexed { width, rs, ra, rb } => {
                 let ea = self.indexed_ea(ra, rb);
-                self.store_at(mem, width, rs, ea, false, ra)
+                let done = store::store(mem, ea, width, self.reg(rs));
+                self.stored(done, false, ra, ea)
             }
         }
     }

@@ -65,7 +65,8 @@ impl State {
         ensures { λ r. ⌜ r ≡ gprOf self n ⌝ }
     {
         let at = place(n);
-        self.gpr[at]
+        let gpr = self.gpr;
+        gpr[at]
     }
 
     // (RA|0): the contents of RA, or 0 if RA is 0.
@@ -79,7 +80,9 @@ impl State {
         ensures { λ r. ⌜ r ≡ withGpr self n v ⌝ }
     {
         let at = place(n);
-        self.gpr[at] = v;
+        let mut gpr = self.gpr;
+        gpr[at] = v;
+        self.gpr = gpr;
         self
     }
 

@@ -2,7 +2,6 @@
 ghost use mathlib.Core.Path.{_≡_};
 ghost use Rattle.machine.specs.Step.{executeOf, decodedOf, runningOf, awakeOf, highestOf, interruptibleOf, countedOf, stepOf};
 ghost use Rattle.insn.specs.Read.{decodeOf};
-use crate::interrupt::Cause;
 use crate::interrupt::Vector;
 use crate::state::State;
 use insn::instr::Decoded;
@@ -53,7 +52,7 @@ impl State {
         let what = read(word);
         match what {
             Decoded::Insn(i) => self.execute(mem, word, i),
-            Decoded::Illegal => self.interrupt(Cause::Program { word, trap: false }),
+            Decoded::Illegal => self.program(word, false),
         }
     }
 
@@ -64,8 +63,8 @@ impl State {
         let got = fetch(&mem[..], self.iar);
         match got {
             Loaded::Value(word) => self.decoded(mem, word),
-            Loaded::Unaligned => self.interrupt(Cause::InstructionStorage),
-            Loaded::Outside => self.interrupt(Cause::InstructionStorage),
+            Loaded::Unaligned => self.instruction_storage(),
+            Loaded::Outside => self.instruction_storage(),
         }
     }
 

@@ -4,7 +4,6 @@ ghost use Rattle.memory.specs.Access.{pick};
 ghost use lib.Dec.{eqb};
 ghost use Rattle.machine.specs.declared.interrupt.Halt.{Halt};
 ghost use Rattle.machine.specs.System.{trapOf, sprOf, readOf, resetOf, dbcrWritten, decWritten, isrWritten, tsrWritten, written, sprWritten, sprMoved, enabledOf, movedOf, returnedOf, systemOf};
-use crate::interrupt::Cause;
 use crate::interrupt::Halt;
 use crate::register::defined;
 use crate::state::Reg;
@@ -61,7 +60,7 @@ impl State {
         if bit_at(self.dbcr, Bit(7)) {
             self.stop(Halt::Trap)
         } else {
-            self.interrupt(Cause::Program { word, trap: true })
+            self.program(word, true)
         }
     }
 
@@ -123,6 +122,12 @@ impl State {
         self.set(r, v & defined(r))
     }
 
+    fn write_msr(self, v: u32) -> State
+        ensures { λ r. ⌜ r ≡ written self Reg.Msr v ⌝ }
+    {
+        self.set(Reg::Msr, v & defined(Reg::Msr))
+    }
+
     fn write_spr(self, n: u16, v: u32) -> State
         ensures { λ r. ⌜ r ≡ sprWritten self n v ⌝ }
     {
@@ -157,9 +162,9 @@ impl State {
     {
         match op {
             MoveOp::Mfcr => self.finish(r, self.cr & defined(Reg::Cr), false),
-            MoveOp::Mtcr0 => self.write(Reg::Cr, self.reg(r)).next(),
+            MoveOp::Mtcr0 => self.set(Reg::Cr, self.reg(r) & defined(Reg::Cr)).next(),
             MoveOp::Mfmsr => self.finish(r, self.msr, false),
-            MoveOp::Mtmsr => self.write(Reg::Msr, self.reg(r)).next(),
+            MoveOp::Mtmsr => self.write_msr(self.reg(r)).next(),
             MoveOp::Wrtee => self.enable(bit_at(self.reg(r), Bit(16))),
         }
     }
@@ -168,7 +173,7 @@ impl State {
         ensures { λ r. ⌜ r ≡ returnedOf self ⌝ }
     {
         let iar = self.srr0 / 4 * 4;
-        self.write(Reg::Msr, self.srr1).set(Reg::Iar, iar)
+        self.write_msr(self.srr1).set(Reg::Iar, iar)
     }
 
     pub fn system(self, i: System) -> State

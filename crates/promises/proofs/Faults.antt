@@ -21,7 +21,7 @@ use Rattle.insn.specs.declared.instr.LoadStore.{LoadStore}
 use Rattle.insn.specs.declared.instr.CacheOp.{CacheOp}
 use Rattle.machine.specs.State.{gprOf, with}
 use Rattle.machine.specs.After.{After}
-use Rattle.machine.specs.Interrupt.{enteredOf, accessNoted, programNoted, notedOf, promotedOf, haltedOf, interruptedOf, vectorFor}
+use Rattle.machine.specs.Interrupt.{enteredOf, accessNoted, programNoted, notedOf, promotedOf, haltedOf, takenFor, interruptedOf, vectorFor}
 use Rattle.machine.specs.LoadStore.{offsetEa, indexedEa, loadedState, storedState, loadAt, storeAt, loadStoreOf}
 use Rattle.machine.specs.Cache.{clearedState, clearAt, cacheOf}
 use Rattle.machine.specs.System.{trapOf}
@@ -154,5 +154,5 @@ interrupted-cases s c false false =
 
 -- taken, promoted or halting, an interrupt touches its own registers alone
 pub interrupted-only : (s : State) (c : Cause) → OnlyInterrupt s (interruptedOf s c)
-unfolding interruptedOf
-interrupted-only s c = interrupted-cases s c (bitAt (s .msr) 15) (bitAt (s .msr) 19)
+unfolding interruptedOf takenFor
+interrupted-only s c = interrupted-cases s c (bitAt (notedOf s c .msr) 15) (bitAt (notedOf s c .msr) 19)

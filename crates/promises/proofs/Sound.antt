@@ -29,7 +29,7 @@ use Rattle.insn.specs.declared.instr.MoveOp.{MoveOp}
 use Rattle.machine.specs.State.{gprOf, with, withGpr}
 use Rattle.machine.specs.Refusal.{acceptsOf}
 use Rattle.machine.specs.Register.{definedOf, cleanOf, soundOf, refusalOf}
-use Rattle.machine.specs.Interrupt.{offsetOf, vectorAt, keptOf, enteredOf, vectorFor, accessNoted, programNoted, notedOf, promotionOf, promotedOf, codeOf, haltedOf, interruptedOf}
+use Rattle.machine.specs.Interrupt.{offsetOf, vectorAt, keptOf, enteredOf, vectorFor, accessNoted, programNoted, notedOf, promotionOf, promotedOf, codeOf, haltedOf, takenFor, interruptedOf}
 use Rattle.machine.specs.Timer.{tsrAfter, eventNoted, tickedOf, actedOf}
 use Rattle.machine.specs.Result.{following, nextOf, soOf, cr0Of, recordedOf, carriedOf, overflowedOf, resultOf}
 use Rattle.machine.specs.Arithmetic.{summedOf, arithmeticOf}
@@ -275,11 +275,11 @@ module _ {s : State} (k : Sound s) where
 -- an interrupt, a result and a tick
 module _ {s : State} (k : Sound s) where
   pub interrupted-sound : (c : Cause) → Sound (interruptedOf s c)
-  unfolding interruptedOf
+  unfolding interruptedOf takenFor
   interrupted-sound c =
       let n = noted-sound k c in
-      picked Sound (bitAt (s .msr) 15) (entered-sound n (vectorFor c))
-      (picked Sound (bitAt (s .msr) 19) (entered-sound (promoted-sound n c) Vector.MachineCheck)
+      picked Sound (bitAt (notedOf s c .msr) 15) (entered-sound n (vectorFor c))
+      (picked Sound (bitAt (notedOf s c .msr) 19) (entered-sound (promoted-sound n c) Vector.MachineCheck)
       (halted-sound (entered-sound n (vectorFor c)) Halt.MachineCheck))
 
   result-sound : (r v : ℕ) (rc : Bool) → Sound (resultOf s r v rc)

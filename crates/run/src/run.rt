@@ -82,22 +82,10 @@ pub fn step(state: State, mem: &mut [u8], event: u8) -> Outcome
     ensures { λ r. ⌜ (r ≡ stepOutcome state (now (mem .entry)) event) × (now (mem .exit) ≡ stepMemory state (now (mem .entry)) event) ⌝ }
 {
     let refusal = step_refusal(state, &mem[..], event);
-    if !accepts(refusal) {
-        return refused(state, refusal);
-    }
-    if state.halt != 0 {
-        return Outcome {
-            refusal: Refusal::None,
-            state,
-            halt: state.halt,
-            steps: 0,
-        };
-    }
-    let next = state.step(mem, event);
-    Outcome {
-        refusal: Refusal::None,
-        state: next,
-        halt: next.halt,
-        steps: 1,
+    if accepts(refusal) {
+        let events = [event];
+        accepted_run(state, mem, &events, 1)
+    } else {
+        refused(state, refusal)
     }
 }

@@ -1,7 +1,5 @@
--- `run::run::step` meets its contract: refused, halted, or one step. Assumes nothing.
+-- `run::run::step` meets its contract: accepted or refused. Assumes nothing.
 use Rattle.run.specs.Outcome.{stepOutcome, stepMemory}
-use Rattle.run.proofs.Laws.{run-halted, run-one}
-use borrow.Author.Tests.{not-true, not-false}
 use mathlib.Core.Path.{refl}
 use borrow.Author.Needs.{needs}
 use Rattle.run.proofs.run.step.Statement.{statement}
@@ -14,11 +12,10 @@ step-spec =
     (tie.spec
     (λ c κs. search needs)
     (λ c κs. search needs)
+    (λ c. search needs)
+    (λ c κs. search needs)
     (λ c κs. search needs)
     (λ c. search needs)
-    (λ c. rw (← (c .before .before .before .step-refusal .ensures), ← (c .before .before .accepts .ensures), not-true (c .before .before .accepts .result) (c .before .if1 .taken)) (c .refused .ensures, refl))
+    (λ c. rw (← (c .before .before .before .before .before .before .before .step-refusal .ensures), ← (c .before .before .before .before .before .before .accepts .ensures), c .before .before .before .before .before .if1 .taken) (c .before .before .accepted-run .ensures .0, c .before .before .accepted-run .ensures .1))
     (λ c. search needs)
-    (λ c. rw (← (c .before .before .before .before .step-refusal .ensures), ← (c .before .before .before .accepts .ensures), not-false (c .before .before .before .accepts .result) (c .before .before .if1 .left), run-halted _ (c .before .before .before .before .before .before .before .args .state) _ 1 0 (c .if2 .taken)) (refl, refl))
-    (λ c κs. search needs)
-    (λ c. search needs)
-    (λ c. rw (← (c .before .before .before .before .before .before .before .before .step-refusal .ensures), ← (c .before .before .before .before .before .before .before .accepts .ensures), not-false (c .before .before .before .before .before .before .before .accepts .result) (c .before .before .before .before .before .before .if1 .left), run-one (c .before .before .before .before .before .before .before .before .before .before .before .args .event) (c .before .before .before .before .before .before .before .before .before .before .before .args .state) (c .before .before .before .before .before .before .before .before .before .before .before .args .mem .now) (c .before .before .before .before .if2 .left), ← (c .before .before .step .ensures .0), ← (c .before .before .step .ensures .1)) (refl, refl)))
+    (λ c. rw (← (c .before .before .before .step-refusal .ensures), ← (c .before .before .accepts .ensures), c .before .if1 .left) (c .refused .ensures, refl)))

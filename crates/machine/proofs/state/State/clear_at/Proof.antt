@@ -19,6 +19,6 @@ clear-at-spec =
     (λ c. search needs)
     (λ c. rw (← (c .before .before .before .before .before .clear .ensures .0), c .before .enum-told .given .1) (c .next .ensures, c .before .before .before .before .before .clear .ensures .1))
     (λ c. search needs)
-    (λ c. rw (← (c .before .before .before .before .before .clear .ensures .0), c .before .enum-told2 .given .1) (c .interrupt .ensures, c .before .before .before .before .before .clear .ensures .1))
+    (λ c. rw (← (c .before .before .before .before .before .clear .ensures .0), c .before .enum-told2 .given .1) (c .alignment .ensures, c .before .before .before .before .before .clear .ensures .1))
     (λ c. search needs)
-    (λ c. rw (← (c .before .before .before .before .before .clear .ensures .0), c .before .enum-told3 .given .1) (c .interrupt2 .ensures, c .before .before .before .before .before .clear .ensures .1)))
+    (λ c. rw (← (c .before .before .before .before .before .clear .ensures .0), c .before .enum-told3 .given .1) (c .data-storage .ensures, c .before .before .before .before .before .clear .ensures .1)))

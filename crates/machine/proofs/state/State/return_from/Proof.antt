@@ -12,4 +12,4 @@ return-from-spec =
     (λ c. search needs)
     (λ c κs. search needs)
     (λ c κs. search needs)
-    (λ c. rw (c .set .ensures, c .before .write .ensures)))
+    (λ c. rw (c .set .ensures, c .before .write-msr .ensures)))

@@ -20,6 +20,6 @@ running-spec =
     (λ c. search needs)
     (λ c. rw (← (c .before .before .before .before .before .before .before .fetch .ensures), c .before .before .before .before .before .got .given .1) (c .before .before .decoded .ensures .0, c .before .before .decoded .ensures .1))
     (λ c. search needs)
-    (λ c. rw (← (c .before .before .before .fetch .ensures), c .before .enum-told .given .1) (c .interrupt .ensures, refl))
+    (λ c. rw (← (c .before .before .before .fetch .ensures), c .before .enum-told .given .1) (c .instruction-storage .ensures, refl))
     (λ c. search needs)
-    (λ c. rw (← (c .before .before .before .fetch .ensures), c .before .enum-told2 .given .1) (c .interrupt2 .ensures, refl)))
+    (λ c. rw (← (c .before .before .before .fetch .ensures), c .before .enum-told2 .given .1) (c .instruction-storage2 .ensures, refl)))

@@ -12,4 +12,4 @@ set-reg-spec =
     (λ c κs. search needs)
     (λ c. search needs)
     (λ c. search needs)
-    (λ c. rw (c .place .ensures .0)))
+    (λ c. rw (c .before .place .ensures .0)))

@@ -17,4 +17,4 @@ trap-spec =
     (λ c κs. search needs)
     (λ c κs. search needs)
     (λ c. simp (ne-eqb _ _ (c .before .before .before .if1 .left), sym (c .before .before .bit-at .ensures) ∙ c .before .if2 .taken) (c .stop .ensures))
-    (λ c. simp (ne-eqb _ _ (c .before .before .before .if1 .left), sym (c .before .before .bit-at .ensures) ∙ c .before .if2 .left) (c .interrupt .ensures)))
+    (λ c. simp (ne-eqb _ _ (c .before .before .before .if1 .left), sym (c .before .before .bit-at .ensures) ∙ c .before .if2 .left) (c .program .ensures)))
