@@ -15,7 +15,7 @@ use Rattle.machine.specs.declared.state.State.{State}
 use Rattle.machine.specs.declared.refusal.Refusal.{Refusal}
 use Rattle.run.specs.Run.{Ran, runOf}
 use Rattle.run.specs.Outcome.{eventsGood, eventsRefusal, runRefusal, stepRefusal, accepted, stepOutcome, stepMemory}
-use Rattle.run.specs.Lent.{lentOf}
+use Rattle.run.specs.Lent.{after, lentOf}
 use Rattle.run.specs.declared.outcome.Outcome.{Outcome}
 use Rattle.run.proofs.Laws.{run-halted, run-one}
 use Rattle.promises.proofs.Sound.{and-left, and-right}
@@ -37,10 +37,6 @@ module _ (s : State) (m : List ℕ) (e : ℕ) (h : startRefusal s (length m) ≡
   one-memory : stepMemory s m e ≡ runOf 1 0 (e ∷ []) s m .mem
   unfolding stepMemory stepRefusal eventsRefusal eventsGood
   one-memory = rw (h, l)
-
--- a run that had taken i steps
-abbrev after : ℕ → Ran → Ran
-after i r = record { st = r .st; mem = r .mem; steps = i + r .steps }
 
 module _ (n i : ℕ) (ev : List ℕ) (s : State) (m : List ℕ) where
   abbrev one : Ran

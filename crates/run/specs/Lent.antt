@@ -12,10 +12,13 @@ use Rattle.run.specs.declared.lent.Answer.{Answer}
 abbrev pub answerOf : Outcome → Answer
 answerOf o = record { refusal = o .refusal; halt = o .halt; steps = o .steps }
 
+-- a run that comes after n steps
+abbrev pub after : ℕ → Ran → Ran
+after n r = record { st = r .st; mem = r .mem; steps = n + r .steps }
+
 -- n turns of such a loop, from turn i on: each lends what the one before left, and the answers' steps are added up
 unfoldable pub lentOf : ℕ → ℕ → List ℕ → State → List ℕ → Ran
 lentOf zero i ev s m = record { st = s; mem = m; steps = 0 }
 lentOf (suc n) i ev s m =
     let o = stepOutcome s m (getD ev i 0) in
-    let r = lentOf n (suc i) ev (o .state) (stepMemory s m (getD ev i 0)) in
-    record { st = r .st; mem = r .mem; steps = answerOf o .steps + r .steps }
+    after (answerOf o .steps) (lentOf n (suc i) ev (o .state) (stepMemory s m (getD ev i 0)))
