@@ -9,13 +9,14 @@ use machine::refusal::Refusal;
 use machine::refusal::accepts;
 use machine::state::State;
 
-// An outcome less its state, which is left where it was lent.
+// An outcome less its state, which stays where it was lent.
 pub struct Answer {
     pub refusal: Refusal,
     pub halt: u32,
     pub steps: u32,
 }
 
+// These three read the outcome, so that the walk that proves `step_lent` goes into no field.
 fn answer_of(outcome: Outcome) -> Answer
     ensures { λ r. ⌜ r ≡ answerOf outcome ⌝ }
 {
@@ -40,7 +41,7 @@ fn state_of(outcome: Outcome) -> State
     outcome.state
 }
 
-// A refused step stores nothing.
+// Answers as the step by value does. A refused step stores nothing.
 pub fn step_lent(state: &mut State, mem: &mut [u8], event: u8) -> Answer
     ensures { λ r. ⌜ (r ≡ answerOf (stepOutcome (now (state .entry)) (now (mem .entry)) event)) × ((now (state .exit) ≡ stepOutcome (now (state .entry)) (now (mem .entry)) event .state) × (now (mem .exit) ≡ stepMemory (now (state .entry)) (now (mem .entry)) event)) ⌝ }
 {
