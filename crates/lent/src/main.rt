@@ -58,6 +58,7 @@ fn program() -> [u8; 32] {
     mem
 }
 
+// By the words of a capture.
 fn same_state(a: State, b: State) -> bool {
     let mut x = [0u8; 144];
     let mut y = [0u8; 144];
@@ -67,10 +68,7 @@ fn same_state(a: State, b: State) -> bool {
 }
 
 fn print_end(steps: u32, halt: u32, iar: u32) {
-    io::write_all(
-        STDOUT_FILENO,
-        b"1000 lent steps and a run of 1000 end alike: steps ",
-    );
+    io::write_all(STDOUT_FILENO, b"lent steps end as the run: steps ");
     io::print_decimal(STDOUT_FILENO, steps as u64);
     io::write_all(STDOUT_FILENO, b" halt ");
     io::print_decimal(STDOUT_FILENO, halt as u64);
@@ -90,6 +88,6 @@ fn main() {
     if check::same(&mem, &lent) & same_state(state, other) & (outcome.steps == left.steps) {
         print_end(left.steps, other.halt, other.iar);
     } else {
-        io::write_all(STDOUT_FILENO, b"the lent steps and the run end apart\n");
+        io::write_all(STDOUT_FILENO, b"lent steps end otherwise\n");
     }
 }
