@@ -8,3 +8,4 @@ pub mod Sound
 pub mod Accepted
 pub mod Determined
 pub mod Lent
+pub mod Worked
