@@ -106,7 +106,7 @@ pub fn word_e(e: bool, x: u32) -> u32
         + field_at(Bit(21), Bit(30), x)
 }
 
-pub fn word_m(op: u32, rs: u8, ra: u8, rb: u8, mb: u8, me: u8, rc: bool) -> u32
+pub fn word_m(op: u32, rs: u8, ra: u8, rb: u16, mb: u8, me: u8, rc: bool) -> u32
     ensures { λ r. ⌜ r ≡ wordM op rs ra rb mb me rc ⌝ }
 {
     field_at(Bit(0), Bit(5), op)

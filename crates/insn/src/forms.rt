@@ -102,7 +102,7 @@ pub fn compare(sign: Sign, ra: u8, rb: u8) -> Written
     )
 }
 
-pub fn rotate_imm(op: RotateOp, rs: u8, ra: u8, sh: u8, mb: u8, me: u8, rc: bool) -> Written
+pub fn rotate_imm(op: RotateOp, rs: u8, ra: u8, sh: u16, mb: u8, me: u8, rc: bool) -> Written
     ensures { λ r. ⌜ r ≡ writtenOf (Instr.Rotate (Rotate.Immediate op rs ra sh mb me rc)) ⌝ }
 {
     let valid = two_defined(rs, ra) & (sh < 32) & (mb < 32) & (me < 32);
@@ -113,7 +113,7 @@ pub fn rotate(rs: u8, ra: u8, rb: u8, mb: u8, me: u8, rc: bool) -> Written
     ensures { λ r. ⌜ r ≡ writtenOf (Instr.Rotate (Rotate.Register rs ra rb mb me rc)) ⌝ }
 {
     let valid = three_defined(rs, ra, rb) & (mb < 32) & (me < 32);
-    written(valid, word_m(23, rs, ra, rb, mb, me, rc))
+    written(valid, word_m(23, rs, ra, rb as u16, mb, me, rc))
 }
 
 pub fn shift(op: ShiftOp, rs: u8, ra: u8, rb: u8, rc: bool) -> Written

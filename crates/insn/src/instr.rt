@@ -100,11 +100,12 @@ pub enum Compare {
 }
 
 pub enum Rotate {
+    // sh has two bytes: with one this would be eight bytes, which are copied as one number and taken apart again
     Immediate {
         op: RotateOp,
         rs: u8,
         ra: u8,
-        sh: u8,
+        sh: u16,
         mb: u8,
         me: u8,
         rc: bool,

@@ -318,7 +318,7 @@ fn rotate_imm(f: Fields, op: RotateOp) -> Decoded
         op,
         rs: f.rt,
         ra: f.ra,
-        sh: f.rb,
+        sh: f.rb as u16,
         mb: f.mb,
         me: f.me,
         rc: f.rc,
@@ -326,7 +326,7 @@ fn rotate_imm(f: Fields, op: RotateOp) -> Decoded
     settle(
         f.word,
         i,
-        forms::rotate_imm(op, f.rt, f.ra, f.rb, f.mb, f.me, f.rc),
+        forms::rotate_imm(op, f.rt, f.ra, f.rb as u16, f.mb, f.me, f.rc),
     )
 }
 

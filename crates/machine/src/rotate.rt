@@ -58,10 +58,10 @@ impl State {
         }
     }
 
-    fn rotate_imm(self, op: RotateOp, rs: u8, ra: u8, sh: u8, mb: u8, me: u8, rc: bool) -> State
+    fn rotate_imm(self, op: RotateOp, rs: u8, ra: u8, sh: u16, mb: u8, me: u8, rc: bool) -> State
         ensures { λ r. ⌜ r ≡ resultOf self ra (merged op (rotl (gprOf self rs) (sh % 2 ^ 5)) (maskFor mb me) (gprOf self ra)) rc ⌝ }
     {
-        let r = rotate_left(self.reg(rs), Shift(sh % 32));
+        let r = rotate_left(self.reg(rs), Shift((sh % 32) as u8));
         let v = merge(op, r, mask_for(mb, me), self.reg(ra));
         self.finish(ra, v, rc)
     }
