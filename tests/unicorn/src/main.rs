@@ -41,11 +41,11 @@ fn compare(urn: &mut Urn, cases: u64) -> u64 {
     for number in 0..cases {
         let case = Case::draw(urn);
         case.place(&mut memory);
-        *emulator.memory() = memory;
+        emulator.memory().copy_from_slice(&memory);
         let core = case.run_library(&mut memory);
         let emulated = emulator.run(&case);
         *seen.entry(case.mnemonic).or_insert(0u64) += 1;
-        if core != emulated || memory != *emulator.memory() {
+        if core != emulated || memory != emulator.memory() {
             differences += 1;
             show(differences, number, &case, &core, &emulated, &memory, emulator.memory());
         }

@@ -1,0 +1,65 @@
+//! The loops that are timed, and where their runs start.
+
+pub struct Loop {
+    pub name: &'static str,
+    /// From address 0 on; ends in a branch back to 0.
+    code: &'static [u32],
+    registers: &'static [(usize, u32)],
+}
+
+pub const ARITHMETIC: Loop = Loop {
+    name: "arithmetic",
+    // add r3,r3,r4; addi r4,r4,1; subfc r5,r3,r4; adde r6,r5,r3; rlwinm r7,r6,5,3,28; srawi. r8,r7,3; xor r9,r8,r3; cntlzw r10,r9; mullhw r3,r9,r10; b 0
+    code: &[
+        0x7C632214, 0x38840001, 0x7CA32010, 0x7CC51914, 0x54C728F8, 0x7CE81E71, 0x7D091A78, 0x7D2A0034, 0x10695350,
+        0x4BFFFFDC,
+    ],
+    registers: &[(3, 0x1234_5678), (4, 0x8765_4321)],
+};
+
+pub const MEMORY: Loop = Loop {
+    name: "memory",
+    // lwz r3,256(r0); addi r3,r3,1; stw r3,256(r0); lhz r4,258(r0); sth r4,260(r0); lbz r5,259(r0); stbx r5,r6,r7; lwzx r8,r6,r7; b 0
+    code: &[0x80600100, 0x38630001, 0x90600100, 0xA0800102, 0xB0800104, 0x88A00103, 0x7CA639AE, 0x7D06382E, 0x4BFFFFE0],
+    registers: &[(6, 0x200), (7, 0x40)],
+};
+
+pub const BRANCHES: Loop = Loop {
+    name: "branches",
+    // cmpwi r3,0; bne 8; nop; addi r3,r3,1; cmplwi r3,9; bgt 8; b 8; b 4; bdnz 4; bl 4; b 0
+    code: &[
+        0x2C030000, 0x40820008, 0x60000000, 0x38630001, 0x28030009, 0x41810008, 0x48000008, 0x48000004, 0x42000004,
+        0x48000005, 0x4BFFFFD8,
+    ],
+    registers: &[],
+};
+
+pub const LEDGER: Loop = Loop {
+    name: "ledger",
+    // lhz r3,256(r0); addi r3,r3,1; sth r3,256(r0); extsh r4,r3; lwz r5,260(r0); cmpw r4,r5; bge 8; stw r4,260(r0); rlwinm r6,r3,2,24,29; addi r6,r6,512; stw r4,0(r6); b 0
+    code: &[
+        0xA0600100, 0x38630001, 0xB0600100, 0x7C640734, 0x80A00104, 0x7C042800, 0x40800008, 0x90800104, 0x5466163A,
+        0x38C60200, 0x90860000, 0x4BFFFFD4,
+    ],
+    registers: &[],
+};
+
+/// What a run changes and the players share; all else starts at 0.
+#[derive(Clone, PartialEq)]
+pub struct State {
+    pub gprs: [u32; 16],
+    pub memory: Vec<u8>,
+}
+
+impl Loop {
+    pub fn start(&self, size: usize) -> State {
+        let mut start = State { gprs: [0; 16], memory: vec![0; size] };
+        for (register, value) in self.registers {
+            start.gprs[*register] = *value;
+        }
+        for (word, bytes) in self.code.iter().zip(start.memory.chunks_exact_mut(4)) {
+            bytes.copy_from_slice(&word.to_be_bytes());
+        }
+        start
+    }
+}

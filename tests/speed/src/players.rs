@@ -1,0 +1,40 @@
+//! Those that play a loop: the linked library, `second`, and Unicorn where it is built in.
+
+use crate::loops::State;
+use linked::LINKED;
+use std::time::Instant;
+
+/// Plays so many steps from address 0, and answers the seconds that they took.
+pub type Player = fn(&mut State, u32) -> f64;
+
+pub const PLAYERS: &[Player] = &[
+    |state, steps| play(LINKED.run, state, steps),
+    |state, steps| play(second::run, state, steps),
+    #[cfg(feature = "unicorn")]
+    emulate,
+];
+
+fn play(run: fn(&mut [u8], &mut [u8], &[u8], u32) -> u64, state: &mut State, steps: u32) -> f64 {
+    let mut record = [0; second::STATE];
+    for (bytes, gpr) in record.chunks_exact_mut(4).zip(state.gprs) {
+        bytes.copy_from_slice(&gpr.to_be_bytes());
+    }
+    let began = Instant::now();
+    let answer = run(&mut record, &mut state.memory, &[], steps);
+    let seconds = began.elapsed().as_secs_f64();
+    assert_eq!(answer, u64::from(steps), "a core refused the loop or halted in it");
+    state.gprs = std::array::from_fn(|i| u32::from_be_bytes(std::array::from_fn(|j| record[4 * i + j])));
+    seconds
+}
+
+/// A count makes Unicorn count every instruction.
+#[cfg(feature = "unicorn")]
+fn emulate(state: &mut State, steps: u32) -> f64 {
+    let mut engine = unicorn::Engine::new(state.memory.clone().into());
+    engine.set_gprs(state.gprs);
+    let began = Instant::now();
+    unicorn::done(engine.run(0, steps as usize));
+    let seconds = began.elapsed().as_secs_f64();
+    *state = State { gprs: engine.gprs(), memory: engine.memory().to_vec() };
+    seconds
+}
