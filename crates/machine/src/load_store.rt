@@ -9,7 +9,6 @@ use memory::load::Loaded;
 use memory::store;
 use word::sign::extend_half;
 use word::sum::plus;
-use word::width::Width;
 
 impl State {
     fn offset_ea(self, ra: u8, d: u16) -> u32

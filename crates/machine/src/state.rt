@@ -59,6 +59,7 @@ fn place(n: u8) -> usize
     if n == 13 { 11 } else { (n % 16) as usize }
 }
 
+// The sixteen are indexed apart from the rest of the state, so that a compiler can keep that in registers.
 impl State {
     // The contents of a GPR.
     pub fn reg(self, n: u8) -> u32
