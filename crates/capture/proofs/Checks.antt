@@ -9,7 +9,7 @@ use borrow.Author.Tests.{leb-true, eqb-true}
 use Rattle.word.specs.declared.width.Width.{Width}
 use Rattle.memory.specs.Access.{sizedOf}
 use Rattle.memory.specs.Load.{valueAt}
-use Rattle.memory.proofs.Laws.{and-true}
+use Rattle.word.proofs.Truth.{and-true}
 use Rattle.machine.specs.declared.state.State.{State}
 use Rattle.machine.specs.declared.refusal.Refusal.{Refusal}
 use Rattle.machine.specs.Refusal.{acceptsOf, unless}

@@ -8,6 +8,7 @@ use native.Mathlib.Decide.{decLe}
 use native.Mathlib.Nat.{lt-of-not-le}
 use lib.Dec.{eqb, ltb, lit<}
 use borrow.Author.Tests.{eqb-true, eq-eqb, lt-leb, le-leb, ne-eqb, ltb-true}
+use Rattle.word.proofs.Truth.{and-true}
 use Rattle.word.specs.Bits.{bitsAt, fieldAt}
 use Rattle.insn.specs.Codes.{moveFxm}
 use Rattle.insn.specs.Fields.{fieldsOf, wordD, wordX, wordXO, wordXFX, wordE, wordM, wordB, wordI}
@@ -29,10 +30,6 @@ use Rattle.insn.specs.declared.instr.CacheOp.{CacheOp}
 use Rattle.insn.proofs.Parts.{DParts, d-parts, XParts, x-parts, XOParts, xo-parts, XFXParts, xfx-parts, EParts, e-parts, MParts, m-parts, BParts, b-parts, IParts, i-parts}
 use Rattle.insn.proofs.Hits.{Primary, XO31, Extended, opcode31, X31, hit-arith-imm, hit-arith, hit-arith-one, hit-multiply, hit-logic-imm, hit-logic, hit-logic-one, hit-compare-imm, hit-compare, hit-rotate-imm, hit-rotate, hit-shift, hit-srawi, hit-load, hit-load-indexed, hit-store, hit-store-indexed, hit-branch, hit-branch-if, hit-branch-to, hit-trap, hit-spr, hit-move, hit-wrteei, hit-rfi, hit-sync, hit-cache}
 
-both : (a b : Bool) → (a && b) ≡ true → (a ≡ true) × (b ≡ true)
-both true b e = (refl, e)
-both false b e = let z : _≡_ {A = ℕ} 0 1 = cc in absurd (omega arith)
-
 -- a word that reads as an instruction is what that instruction is written as, and the instruction is valid
 settled-is : (w : ℕ) (d : Decoded) (i : Instr) → settled w d ≡ Decoded.Insn i → (validOf i ≡ true) × (wordOf i ≡ w)
 settled-is w Decoded.Illegal i e = let z : _≡_ {A = ℕ} 0 1 = cc in absurd (omega arith)
@@ -41,7 +38,7 @@ settled-is w (Decoded.Insn j) i e = go (validOf j && eqb (wordOf j) w) refl e
     go : (b : Bool) → (validOf j && eqb (wordOf j) w) ≡ b → cond b (Decoded.Insn j) Decoded.Illegal ≡ Decoded.Insn i → (validOf i ≡ true) × (wordOf i ≡ w)
     go true t h =
         let s : j ≡ i = cc in
-        let p = both (validOf j) (eqb (wordOf j) w) t in
+        let p = and-true (validOf j) (eqb (wordOf j) w) t in
         (ap validOf (sym s) ∙ p .0, ap wordOf (sym s) ∙ eqb-true (wordOf j) w (p .1))
     go false t h = let z : _≡_ {A = ℕ} 0 1 = cc in absurd (omega arith)
 
@@ -67,7 +64,7 @@ spr-lt = below isSpr 1024 (λ n h. simp (far 1024))
 
 spr-ok-lt : (op : SprOp) (n : ℕ) → sprOk op n ≡ true → n < 1024
 spr-ok-lt SprOp.Mfspr n v = spr-lt n v
-spr-ok-lt SprOp.Mtspr n v = spr-lt n (both (isSpr n) (not (readOnly n)) v .0)
+spr-ok-lt SprOp.Mtspr n v = spr-lt n (and-true (isSpr n) (not (readOnly n)) v .0)
 
 to-lt : (n : ℕ) → isTo n ≡ true → n < 32
 to-lt = below isTo 32 (λ n h. simp (far 32))
@@ -91,13 +88,13 @@ Passed P (b ∷ bs) = Passed (P × (b ≡ true)) bs
 
 passed : (a : Bool) (P : Type 0) → (a ≡ true → P) → (bs : List Bool) → allOf a bs ≡ true → Passed P bs
 passed a P f [] e = f e
-passed a P f (b ∷ bs) e = passed (a && b) (P × (b ≡ true)) (λ h. let q = both a b h in (f (q .0), q .1)) bs e
+passed a P f (b ∷ bs) e = passed (a && b) (P × (b ≡ true)) (λ h. let q = and-true a b h in (f (q .0), q .1)) bs e
 
 ands : (a : Bool) (bs : List Bool) → allOf a bs ≡ true → Passed (a ≡ true) bs
 ands a bs e = passed a (a ≡ true) (λ h. h) bs e
 
 two : (a b : ℕ) → twoRegs a b ≡ true → (a < 32) × (b < 32)
-two a b v = let h = both (regOf a) (regOf b) v in omega facts
+two a b v = let h = and-true (regOf a) (regOf b) v in omega facts
 
 three : (a b c : ℕ) → threeRegs a b c ≡ true → (a < 32) × (b < 32) × (c < 32)
 three a b c v = let h = ands (regOf a) (regOf b ∷ regOf c ∷ []) v in omega facts
@@ -176,7 +173,7 @@ by-i {li} aa lk hit h same =
 -- what a valid instruction is written as suggests that instruction
 guess-written : (i : Instr) → validOf i ≡ true → guessOf (fieldsOf (wordOf i)) ≡ Decoded.Insn i
 guess-written (Instr.Arithmetic (Arithmetic.Immediate op rt ra si)) v =
-    let h = both (fits 16 si) (twoRegs rt ra) v in
+    let h = and-true (fits 16 si) (twoRegs rt ra) v in
     let r = two rt ra (h .1) in
     by-d (hit-arith-imm op) (omega facts) (λ f p. rw (p .rt-is, p .ra-is, p .imm-is))
 guess-written (Instr.Arithmetic (Arithmetic.Register op rt ra rb oe rc)) v = by-xo oe rc (hit-arith op) (three rt ra rb v) (λ f p. rw (p .rt-is, p .ra-is, p .rb-is, p .oe-is, p .rc-is))
@@ -185,7 +182,7 @@ guess-written (Instr.Arithmetic (Arithmetic.One op rt ra oe rc)) v =
     by-xo {rb = 0} oe rc (hit-arith-one op) (omega arith) (λ f p. rw (p .rt-is, p .ra-is, p .oe-is, p .rc-is))
 guess-written (Instr.Arithmetic (Arithmetic.Multiply sign rt ra rb rc)) v = by-x of-4 rc (hit-multiply sign) (three rt ra rb v) (λ f p. rw (p .rt-is, p .ra-is, p .rb-is, p .rc-is))
 guess-written (Instr.Logical (Logical.Immediate op rs ra ui)) v =
-    let h = both (fits 16 ui) (twoRegs rs ra) v in
+    let h = and-true (fits 16 ui) (twoRegs rs ra) v in
     let r = two rs ra (h .1) in
     by-d (hit-logic-imm op) (omega facts) (λ f p. rw (p .rt-is, p .ra-is, p .imm-is))
 guess-written (Instr.Logical (Logical.Register op rs ra rb rc)) v = by-x of-31 rc (hit-logic op) (three rs ra rb v) (λ f p. rw (p .rt-is, p .ra-is, p .rb-is, p .rc-is))
@@ -193,7 +190,7 @@ guess-written (Instr.Logical (Logical.One op rs ra rc)) v =
     let r = two rs ra v in
     by-x {rb = 0} of-31 rc (hit-logic-one op) (omega arith) (λ f p. rw (p .rt-is, p .ra-is, p .rc-is))
 guess-written (Instr.Compare (Compare.Immediate sign ra imm)) v =
-    let h = both (fits 16 imm) (regOf ra) v in
+    let h = and-true (fits 16 imm) (regOf ra) v in
     by-d {rt = 0} (hit-compare-imm sign) (omega facts) (λ f p. rw (p .ra-is, p .imm-is))
 guess-written (Instr.Compare (Compare.Register sign ra rb)) v =
     let r = two ra rb v in
@@ -209,12 +206,12 @@ guess-written (Instr.Rotate (Rotate.Srawi rs ra sh rc)) v =
     let h = ands (regOf rs) (regOf ra ∷ fits 5 sh ∷ []) v in
     by-x of-31 rc hit-srawi (omega facts) (λ f p. rw (p .rt-is, p .ra-is, p .rb-is, p .rc-is))
 guess-written (Instr.LoadStore (LoadStore.Load width update rt ra d)) v =
-    let h = both (fits 16 d) (twoRegs rt ra && loadForm update rt ra) v in
+    let h = and-true (fits 16 d) (twoRegs rt ra && loadForm update rt ra) v in
     let r = ands (regOf rt) (regOf ra ∷ loadForm update rt ra ∷ []) (h .1) in
     by-d (hit-load width update) (omega facts) (λ f p. rw (p .rt-is, p .ra-is, p .imm-is))
 guess-written (Instr.LoadStore (LoadStore.LoadIndexed width rt ra rb)) v = by-x of-31 false (hit-load-indexed width) (three rt ra rb v) (λ f p. rw (p .rt-is, p .ra-is, p .rb-is))
 guess-written (Instr.LoadStore (LoadStore.Store width update rs ra d)) v =
-    let h = both (fits 16 d) (twoRegs rs ra && storeForm update ra) v in
+    let h = and-true (fits 16 d) (twoRegs rs ra && storeForm update ra) v in
     let r = ands (regOf rs) (regOf ra ∷ storeForm update ra ∷ []) (h .1) in
     by-d (hit-store width update) (omega facts) (λ f p. rw (p .rt-is, p .ra-is, p .imm-is))
 guess-written (Instr.LoadStore (LoadStore.StoreIndexed width rs ra rb)) v = by-x of-31 false (hit-store-indexed width) (three rs ra rb v) (λ f p. rw (p .rt-is, p .ra-is, p .rb-is))
@@ -226,11 +223,11 @@ guess-written (Instr.Branch (Branch.Register op bo bi bh lk)) v =
     let h = ands (fits 5 bo) (fits 2 bi ∷ fits 2 bh ∷ branchForm op bo ∷ []) v in
     by-x of-19 lk (hit-branch-to op) (omega facts) (λ f p. rw (p .rt-is, p .ra-is, p .rb-is, p .rc-is))
 guess-written (Instr.Trap to ra rb tg) v =
-    let h = both (isTo to) (twoRegs ra rb) v in
+    let h = and-true (isTo to) (twoRegs ra rb) v in
     let r = two ra rb (h .1) in
     by-x of-31 tg hit-trap (omega facts) (λ f p. rw (p .rt-is, p .ra-is, p .rb-is, p .rc-is))
 guess-written (Instr.System (System.Spr op rt spr)) v =
-    let h = both (regOf rt) (sprOk op spr) v in
+    let h = and-true (regOf rt) (sprOk op spr) v in
     let e : fieldAt 22 26 (bitsAt spr 22 26) + fieldAt 27 31 (bitsAt spr 27 31) ≡ spr = omega facts in
     by-x of-31 false (hit-spr op) (omega facts) (λ f p. rw (p .rt-is, p .spr-is, e))
 guess-written (Instr.System (System.Move op rt)) v = by-xfx (moveFxm op) (hit-move op) (reg-lt rt v) (λ f p. rw (p .rt-is))
@@ -238,7 +235,7 @@ guess-written (Instr.System (System.Wrteei e)) v = by-e e hit-wrteei (λ f p. rw
 guess-written (Instr.System System.Rfi) v = by-x {rt = 0} {ra = 0} {rb = 0} of-19 false hit-rfi (omega arith) (λ f p. refl)
 guess-written (Instr.System System.Sync) v = by-x {rt = 0} {ra = 0} {rb = 0} of-31 false hit-sync (omega arith) (λ f p. refl)
 guess-written (Instr.Cache op hint ra rb) v =
-    let h = both (hintOk op hint) (twoRegs ra rb) v in
+    let h = and-true (hintOk op hint) (twoRegs ra rb) v in
     let r = two ra rb (h .1) in
     by-x of-31 false (hit-cache op) (omega facts) (λ f p. rw (p .rt-is, p .ra-is, p .rb-is))
 

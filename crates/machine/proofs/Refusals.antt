@@ -3,7 +3,7 @@ use Prim.Native.Nat.{ℕ}
 use mathlib.Core.Bool.{Bool, true, false}
 use mathlib.Core.Path.{_≡_, refl, sym, _∙_}
 use Rattle.memory.specs.Access.{pick, sizedOf}
-use Rattle.memory.proofs.Laws.{never}
+use Rattle.word.proofs.Truth.{never}
 use Rattle.machine.specs.Refusal.{acceptsOf, unless, orElse}
 use Rattle.machine.specs.Register.{refusalOf, startRefusal}
 use Rattle.machine.specs.declared.state.State.{State}

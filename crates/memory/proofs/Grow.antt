@@ -14,7 +14,8 @@ use Rattle.word.specs.Width.{bytes}
 use Rattle.memory.specs.Access.{pick, accessOf, reachesPast}
 use Rattle.memory.specs.Load.{valueAt, loaded, loadOf, fetchOf}
 use Rattle.memory.specs.Store.{bytesOf, written, storedOf, blockAt, clearedOf}
-use Rattle.memory.proofs.Laws.{never, served-inside}
+use Rattle.word.proofs.Truth.{never}
+use Rattle.memory.proofs.Laws.{served-inside}
 
 leb-grow : (k : ℕ) (m x : List ℕ) → leb k (length m) ≡ true → leb k (length (m ++ x)) ≡ true
 leb-grow k m x t = le-leb k (length (m ++ x)) (omega (arith, leb-true k (length m) t, length-append m x))

@@ -2,13 +2,14 @@
 use Prim.Native.Nat.{ℕ, _+_, _-_, _%_, _≤_}
 use native.Mathlib.Omega.{arith}
 use mathlib.Core.Bool.{Bool, true, false, not, _&&_}
-use mathlib.Core.Path.{_≡_, refl, sym}
+use mathlib.Core.Path.{_≡_, refl}
 use mathlib.Core.List.{List, append-assoc}
 use lib.Dec.{lit≤, leb, eqb}
 use lib.ListN.{length, take, drop, replicate, length-drop}
 use lib.Seq.{sets, length-take-le, drop-drop, sets-eq}
 use borrow.Author.Tests.{leb-true, eqb-true, eqb-false, not-true}
 use borrow.Rule.Slice.PartMut.{putMid}
+use Rattle.word.proofs.Truth.{and-true}
 use Rattle.word.specs.Width.{bytes}
 use Rattle.memory.specs.Access.{pick, accessOf, sizedOf}
 use Rattle.word.specs.declared.width.Width.{Width}
@@ -36,13 +37,6 @@ block a m ys h e =
     let k : a + 32 - a ≡ 32 = omega arith in
     let l : 32 ≤ length (drop a m) = simp length-drop (omega arith) in
     rw (e, k, length-take-le 32 (drop a m) l, drop-drop, sets-eq (replicate 32 0) m a h, append-assoc)
-
-pub never : {A : Type 0} → true ≡ false → A
-never e = let z : _≡_ {A = ℕ} 0 1 = cc in absurd (omega arith)
-
-pub and-true : (p q : Bool) → p && q ≡ true → (p ≡ true) × (q ≡ true)
-and-true true q h = (refl, h)
-and-true false q h = never (sym h)
 
 -- a length that the board has
 pub sized-bounds : (m : ℕ) → sizedOf m ≡ true → (32 ≤ m) × (m ≤ 1048576)

@@ -15,7 +15,7 @@ use Rattle.memory.specs.Load.{loaded, loadOf, fetchOf, valueAt}
 use Rattle.memory.specs.Store.{blockAt}
 use Rattle.memory.specs.declared.access.Access.{Access}
 use Rattle.memory.specs.declared.load.Loaded.{Loaded}
-use Rattle.memory.proofs.Laws.{never}
+use Rattle.word.proofs.Truth.{never}
 use Rattle.memory.proofs.Grow.{access-grow, load-grow, fetch-grow, store-grow, clear-grow}
 use Rattle.insn.specs.Read.{decodeOf}
 use Rattle.insn.specs.declared.instr.Instr.{Instr}

@@ -18,7 +18,7 @@ use Rattle.run.specs.Outcome.{eventsGood, eventsRefusal, runRefusal, stepRefusa
 use Rattle.run.specs.Lent.{after, lentOf}
 use Rattle.run.specs.declared.outcome.Outcome.{Outcome}
 use Rattle.run.proofs.Laws.{run-halted, run-one}
-use Rattle.promises.proofs.Sound.{and-left, and-right}
+use Rattle.word.proofs.Truth.{and-left, and-right}
 use Rattle.promises.proofs.Accepted.{start-again, first-none, second-none}
 
 -- each event of a good list is below 64, the zeros past its end too

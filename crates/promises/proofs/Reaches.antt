@@ -17,7 +17,8 @@ use Rattle.memory.specs.Load.{valueAt, loaded, loadOf, fetchOf}
 use Rattle.memory.specs.Store.{bytesOf, written, storedOf, blockAt, clearedOf}
 use Rattle.memory.specs.declared.access.Access.{Access}
 use Rattle.memory.specs.declared.load.Loaded.{Loaded}
-use Rattle.memory.proofs.Laws.{never, served-inside}
+use Rattle.word.proofs.Truth.{never}
+use Rattle.memory.proofs.Laws.{served-inside}
 use Rattle.memory.proofs.Grow.{bytes-length}
 use Rattle.insn.specs.Read.{decodeOf}
 use Rattle.insn.specs.declared.instr.Instr.{Instr}

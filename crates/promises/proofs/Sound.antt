@@ -15,7 +15,7 @@ use Rattle.word.specs.declared.shift.Shifted.{Shifted}
 use Rattle.memory.specs.Access.{pick}
 use Rattle.memory.specs.declared.access.Access.{Access}
 use Rattle.memory.specs.declared.load.Loaded.{Loaded}
-use Rattle.memory.proofs.Laws.{never}
+use Rattle.word.proofs.Truth.{never, and-left, and-right}
 use Rattle.insn.specs.declared.instr.Arithmetic.{Arithmetic}
 use Rattle.insn.specs.declared.instr.Logical.{Logical}
 use Rattle.insn.specs.declared.instr.Compare.{Compare}
@@ -68,14 +68,6 @@ pub record Sound (s : State) : Type 0 where
 pub picked : {A : Type 0} (P : A → Type 0) {x y : A} (b : Bool) → P x → P y → P (pick b x y)
 picked P true p q = p
 picked P false p q = q
-
-pub and-left : (a b : Bool) → (a && b) ≡ true → a ≡ true
-and-left true b h = refl
-and-left false b h = h
-
-pub and-right : (a b : Bool) → (a && b) ≡ true → b ≡ true
-and-right true b h = h
-and-right false b h = never (sym h)
 
 and-both : (a b : Bool) → a ≡ true → b ≡ true → (a && b) ≡ true
 and-both true b h k = k

@@ -1,4 +1,5 @@
 -- What the proofs of several functions share, and the theorems that tie the definitions to the manual's meaning.
+pub mod Truth
 pub mod Laws
 pub mod Below
 pub mod ByBits
