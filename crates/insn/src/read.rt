@@ -205,6 +205,7 @@ fn arith_imm(f: Fields, op: ArithImmOp) -> Decoded
     settle(f.word, i, forms::arith_imm(op, f.rt, f.ra, f.imm))
 }
 
+// The word has the mnemonic's own opcode here and in `logic`, so it is not looked up again.
 fn arith(f: Fields, op: ArithOp) -> Decoded
     requires { ⌜ f .xo ≡ arithCode op ⌝ }
     ensures { λ r. ⌜ r ≡ settleOf (f .word) (arithAt op f) ⌝ }
@@ -260,7 +261,6 @@ fn logic_imm(f: Fields, op: LogicImmOp) -> Decoded
     settle(f.word, i, forms::logic_imm(op, f.rt, f.ra, f.imm))
 }
 
-// A word has the mnemonic's own opcode already.
 fn logic(f: Fields, op: LogicOp) -> Decoded
     requires { ⌜ f .x ≡ logicCode op ⌝ }
     ensures { λ r. ⌜ r ≡ settleOf (f .word) (logicAt op f) ⌝ }
