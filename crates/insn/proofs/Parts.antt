@@ -1,11 +1,14 @@
--- The parts of a word that was made of parts are those parts, for each layout. Assumes nothing.
-use mathlib.Core.Path.{_≡_, _∙_, refl, ap}
+-- The parts of a word that was made of parts are those parts, for each layout; and where a layout names every bit, a word is made of its parts. Assumes nothing.
+use mathlib.Core.Path.{_≡_, _∙_, refl, sym, ap, subst}
 use mathlib.Core.Bool.{Bool, true, false}
-use Prim.Native.Nat.{ℕ, _+_, _-_, _/_, _%_, _^_, _<_}
+use Prim.Native.Nat.{ℕ, _+_, _-_, _*_, _/_, _%_, _^_, _<_}
+use native.Mathlib.Nat.{add-assoc, mod-lt, mod-eq-of-lt, zero-lt-suc}
 use native.Mathlib.Omega.{arith}
 use lib.Dec.{eqb, lit<}
+use lib.Pow.{pow-pos, mod-pow-add}
+use Rattle.word.proofs.ByBits.{digit-of}
 use Rattle.word.specs.Bits.{digit, bitAt, bitsAt, fieldAt}
-use Rattle.insn.specs.Fields.{sprOf, fieldsOf, wordD, wordX, wordXO, wordXFX, wordE, wordM, wordB, wordI}
+use Rattle.insn.specs.Fields.{sprOf, fieldsOf, IsFields, wordD, wordX, wordXO, wordXFX, wordE, wordM, wordB, wordI}
 use Rattle.insn.specs.declared.fields.Fields.{Fields}
 
 digit-lt : (b : Bool) → digit b < 2
@@ -163,3 +166,76 @@ i-parts {li} aa lk hli =
     let haa = digit-lt aa in
     let hlk = digit-lt lk in
     record { op-is = omega arith; li-is = omega arith; aa-is = flag aa (wordI li aa lk) 30 (omega arith); rc-is = flag lk (wordI li aa lk) 31 (omega arith) }
+
+pub fields-are : {w : ℕ} {f : Fields} → w < 2 ^ 32 → f ≡ fieldsOf w → IsFields f
+unfolding fieldsOf
+fields-are h e = subst IsFields (sym e) (h, refl)
+
+-- a word is made of its own parts, in each layout that names every bit: from the left, a part and what stands to the right of it
+part : (w n k : ℕ) → w / 2 ^ k % 2 ^ n % 2 ^ n * 2 ^ k + w % 2 ^ k ≡ w % 2 ^ (n + k)
+part w n k = ap (λ (x : ℕ). x * 2 ^ k + w % 2 ^ k) (mod-eq-of-lt (mod-lt (w / 2 ^ k) (pow-pos n))) ∙ sym (mod-pow-add w n k)
+
+bit-part : (w i : ℕ) → digit (bitAt w i) % 2 ^ 1 * 2 ^ (31 - i) + w % 2 ^ (31 - i) ≡ w % 2 ^ (1 + (31 - i))
+bit-part w i = ap (λ (d : ℕ). d % 2 ^ 1 * 2 ^ (31 - i) + w % 2 ^ (31 - i)) (digit-of _ (mod-lt _ (zero-lt-suc 1))) ∙ part w 1 (31 - i)
+
+code-part : (w n k : ℕ) {code : ℕ} → w / 2 ^ k % 2 ^ n ≡ code → code % 2 ^ n * 2 ^ k + w % 2 ^ k ≡ w % 2 ^ (n + k)
+code-part w n k e = ap (λ (x : ℕ). x % 2 ^ n * 2 ^ k + w % 2 ^ k) (sym e) ∙ part w n k
+
+first : {w op : ℕ} → w < 2 ^ 32 → bitsAt w 0 5 ≡ op → fieldAt 0 5 op + w % 2 ^ 26 ≡ w
+first {w} h e = code-part w 6 26 e ∙ mod-eq-of-lt h
+
+then : (s p x : ℕ) {y w : ℕ} → p + x ≡ y → s + y ≡ w → s + p + x ≡ w
+then s p x e h = add-assoc s p x ∙ ap (λ (n : ℕ). s + n) e ∙ h
+
+last : {s w : ℕ} → s + w % 1 ≡ w → s ≡ w
+last h = omega (arith, h)
+
+pub d-whole : {op : ℕ} (f : Fields) → IsFields f × (f .op ≡ op) → wordD op (f .rt) (f .ra) (f .imm) ≡ f .word
+unfolding fieldsOf
+d-whole {op} f h =
+    let w = f .word in
+    subst (λ (g : Fields). g .op ≡ op → wordD op (g .rt) (g .ra) (g .imm) ≡ w) (sym (h .0 .1))
+    (λ o. last (then _ _ _ (part w 16 0) (then _ _ _ (part w 5 16) (then _ _ _ (part w 5 21) (first (h .0 .0) o)))))
+    (h .1)
+
+pub x-whole : {op x : ℕ} (f : Fields) → IsFields f × (f .op ≡ op) × (f .x ≡ x) → wordX op (f .rt) (f .ra) (f .rb) x (f .rc) ≡ f .word
+unfolding fieldsOf
+x-whole {op} {x} f h =
+    let w = f .word in
+    subst (λ (g : Fields). g .op ≡ op → g .x ≡ x → wordX op (g .rt) (g .ra) (g .rb) x (g .rc) ≡ w) (sym (h .0 .1))
+    (λ o c. last (then _ _ _ (bit-part w 31) (then _ _ _ (code-part w 10 1 c) (then _ _ _ (part w 5 11) (then _ _ _ (part w 5 16) (then _ _ _ (part w 5 21) (first (h .0 .0) o)))))))
+    (h .1)
+    (h .2)
+
+pub xo-whole : {xo : ℕ} (f : Fields) → IsFields f × (f .op ≡ 31) × (f .xo ≡ xo) → wordXO (f .rt) (f .ra) (f .rb) (f .oe) xo (f .rc) ≡ f .word
+unfolding fieldsOf
+xo-whole {xo} f h =
+    let w = f .word in
+    subst (λ (g : Fields). g .op ≡ 31 → g .xo ≡ xo → wordXO (g .rt) (g .ra) (g .rb) (g .oe) xo (g .rc) ≡ w) (sym (h .0 .1))
+    (λ o c. last (then _ _ _ (bit-part w 31) (then _ _ _ (code-part w 9 1 c) (then _ _ _ (bit-part w 21) (then _ _ _ (part w 5 11) (then _ _ _ (part w 5 16) (then _ _ _ (part w 5 21) (first (h .0 .0) o))))))))
+    (h .1)
+    (h .2)
+
+pub m-whole : {op : ℕ} (f : Fields) → IsFields f × (f .op ≡ op) → wordM op (f .rt) (f .ra) (f .rb) (f .mb) (f .me) (f .rc) ≡ f .word
+unfolding fieldsOf
+m-whole {op} f h =
+    let w = f .word in
+    subst (λ (g : Fields). g .op ≡ op → wordM op (g .rt) (g .ra) (g .rb) (g .mb) (g .me) (g .rc) ≡ w) (sym (h .0 .1))
+    (λ o. last (then _ _ _ (bit-part w 31) (then _ _ _ (part w 5 1) (then _ _ _ (part w 5 6) (then _ _ _ (part w 5 11) (then _ _ _ (part w 5 16) (then _ _ _ (part w 5 21) (first (h .0 .0) o))))))))
+    (h .1)
+
+pub b-whole : (f : Fields) → IsFields f × (f .op ≡ 16) → wordB (f .rt) (f .ra) (f .bd) (f .aa) (f .rc) ≡ f .word
+unfolding fieldsOf
+b-whole f h =
+    let w = f .word in
+    subst (λ (g : Fields). g .op ≡ 16 → wordB (g .rt) (g .ra) (g .bd) (g .aa) (g .rc) ≡ w) (sym (h .0 .1))
+    (λ o. last (then _ _ _ (bit-part w 31) (then _ _ _ (bit-part w 30) (then _ _ _ (part w 14 2) (then _ _ _ (part w 5 16) (then _ _ _ (part w 5 21) (first (h .0 .0) o)))))))
+    (h .1)
+
+pub i-whole : (f : Fields) → IsFields f × (f .op ≡ 18) → wordI (f .li) (f .aa) (f .rc) ≡ f .word
+unfolding fieldsOf
+i-whole f h =
+    let w = f .word in
+    subst (λ (g : Fields). g .op ≡ 18 → wordI (g .li) (g .aa) (g .rc) ≡ w) (sym (h .0 .1))
+    (λ o. last (then _ _ _ (bit-part w 31) (then _ _ _ (bit-part w 30) (then _ _ _ (part w 24 2) (first (h .0 .0) o)))))
+    (h .1)

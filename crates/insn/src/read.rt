@@ -1,17 +1,17 @@
-// A word as its instruction, or illegal: its opcodes suggest a form and a mnemonic, its parts the operands; what they make is
-// written back, and read only if it is valid and gives the same word.
+// A word as its instruction, or illegal: its opcodes suggest a form and a mnemonic, its parts the operands. What they make is
+// read if it is valid and written as the same word; a form that names every bit is, and is not compared.
 ghost use mathlib.Core.Path.{_≡_};
-ghost use Rattle.insn.specs.Codes.{arithCode, logicCode};
+ghost use mathlib.Core.Bool.{cond};
+ghost use Rattle.insn.specs.Codes.{arithImmCode, arithCode, multiplyCode, logicImmCode, logicCode, rotateCode, shiftCode, loadCode, storeCode, branchCode};
+ghost use Rattle.insn.specs.Fields.{IsFields};
+ghost use Rattle.insn.specs.Valid.{validOf};
 ghost use Rattle.insn.specs.Write.{writtenOf};
+ghost use Rattle.insn.specs.declared.instr.Decoded.{Decoded};
 ghost use Rattle.insn.specs.Read.{settleOf, settled, decodeOf, primary, loadStore, opcode4, opcode19, arithmetic, logical, storage, system, arithImmAt, arithAt, arithOneAt, multiplyAt, logicImmAt, logicAt, logicOneAt, compareImmAt, compareAt, rotateImmAt, rotateAt, shiftAt, srawiAt, loadAt, loadIndexedAt, storeAt, storeIndexedAt, branchAt, branchIfAt, branchToAt, trapAt, moveSprAt, moveRegAt, wrteeiAt, rfiAt, syncAt, cacheAt};
 use crate::fields::Fields;
 use crate::fields::fields_of;
-use crate::fields::word_x;
-use crate::fields::word_xo;
 use crate::forms;
-use crate::forms::written;
 use crate::instr::*;
-use crate::valid::three_defined;
 use word::width::Width;
 
 pub fn read(word: u32) -> Decoded
@@ -22,6 +22,7 @@ pub fn read(word: u32) -> Decoded
 
 // By the primary opcode.
 fn read_primary(f: Fields) -> Decoded
+    requires { ⌜ IsFields f ⌝ }
     ensures { λ r. ⌜ r ≡ settled (f .word) (primary (f .op) f) ⌝ }
 {
     let op = f.op;
@@ -52,6 +53,7 @@ fn read_primary(f: Fields) -> Decoded
 }
 
 fn read_load_store(f: Fields) -> Decoded
+    requires { ⌜ IsFields f ⌝ }
     ensures { λ r. ⌜ r ≡ settled (f .word) (loadStore (f .op) f) ⌝ }
 {
     let op = f.op;
@@ -74,6 +76,7 @@ fn read_load_store(f: Fields) -> Decoded
 
 // By the extended opcode under primary opcode 4.
 fn read_4(f: Fields) -> Decoded
+    requires { ⌜ IsFields f × (f .op ≡ 4) ⌝ }
     ensures { λ r. ⌜ r ≡ settled (f .word) (opcode4 (f .x) f) ⌝ }
 {
     let x = f.x;
@@ -85,6 +88,7 @@ fn read_4(f: Fields) -> Decoded
 }
 
 fn read_19(f: Fields) -> Decoded
+    requires { ⌜ IsFields f × (f .op ≡ 19) ⌝ }
     ensures { λ r. ⌜ r ≡ settled (f .word) (opcode19 (f .x) f) ⌝ }
 {
     let x = f.x;
@@ -98,6 +102,7 @@ fn read_19(f: Fields) -> Decoded
 
 // The XO forms; what is none of them is an X form.
 fn read_31(f: Fields) -> Decoded
+    requires { ⌜ IsFields f × (f .op ≡ 31) ⌝ }
     ensures { λ r. ⌜ r ≡ settled (f .word) (arithmetic (f .x) (f .xo) f) ⌝ }
 {
     let xo = f.xo;
@@ -118,6 +123,7 @@ fn read_31(f: Fields) -> Decoded
 }
 
 fn read_logical(f: Fields) -> Decoded
+    requires { ⌜ IsFields f × (f .op ≡ 31) ⌝ }
     ensures { λ r. ⌜ r ≡ settled (f .word) (logical (f .x) f) ⌝ }
 {
     let x = f.x;
@@ -193,7 +199,20 @@ fn settle(word: u32, i: Instr, back: Written) -> Decoded
     }
 }
 
+// The same for a form that names every bit: with its own opcode it is written as this very word.
+fn settle_whole(i: Instr, back: Written) -> Decoded
+    requires { ⌜ back ≡ writtenOf i ⌝ }
+    ensures { λ r. ⌜ r ≡ cond (validOf i) (Decoded.Insn i) Decoded.Illegal ⌝ }
+{
+    if back.refusal == 0 {
+        Decoded::Insn(i)
+    } else {
+        Decoded::Illegal
+    }
+}
+
 fn arith_imm(f: Fields, op: ArithImmOp) -> Decoded
+    requires { ⌜ IsFields f × (f .op ≡ arithImmCode op) ⌝ }
     ensures { λ r. ⌜ r ≡ settleOf (f .word) (arithImmAt op f) ⌝ }
 {
     let i = Instr::Arithmetic(Arithmetic::Immediate {
@@ -202,12 +221,11 @@ fn arith_imm(f: Fields, op: ArithImmOp) -> Decoded
         ra: f.ra,
         si: f.imm,
     });
-    settle(f.word, i, forms::arith_imm(op, f.rt, f.ra, f.imm))
+    settle_whole(i, forms::arith_imm(op, f.rt, f.ra, f.imm))
 }
 
-// The word has the mnemonic's own opcode here and in `logic`, so it is not looked up again.
 fn arith(f: Fields, op: ArithOp) -> Decoded
-    requires { ⌜ f .xo ≡ arithCode op ⌝ }
+    requires { ⌜ IsFields f × (f .op ≡ 31) × (f .xo ≡ arithCode op) ⌝ }
     ensures { λ r. ⌜ r ≡ settleOf (f .word) (arithAt op f) ⌝ }
 {
     let i = Instr::Arithmetic(Arithmetic::Register {
@@ -218,9 +236,7 @@ fn arith(f: Fields, op: ArithOp) -> Decoded
         oe: f.oe,
         rc: f.rc,
     });
-    let valid = three_defined(f.rt, f.ra, f.rb);
-    let word = word_xo(f.rt, f.ra, f.rb, f.oe, f.xo as u32, f.rc);
-    settle(f.word, i, written(valid, word))
+    settle_whole(i, forms::arith(op, f.rt, f.ra, f.rb, f.oe, f.rc))
 }
 
 fn arith_one(f: Fields, op: ArithOneOp) -> Decoded
@@ -237,6 +253,7 @@ fn arith_one(f: Fields, op: ArithOneOp) -> Decoded
 }
 
 fn multiply(f: Fields, sign: Sign) -> Decoded
+    requires { ⌜ IsFields f × (f .op ≡ 4) × (f .x ≡ multiplyCode sign) ⌝ }
     ensures { λ r. ⌜ r ≡ settleOf (f .word) (multiplyAt sign f) ⌝ }
 {
     let i = Instr::Arithmetic(Arithmetic::Multiply {
@@ -246,10 +263,11 @@ fn multiply(f: Fields, sign: Sign) -> Decoded
         rb: f.rb,
         rc: f.rc,
     });
-    settle(f.word, i, forms::multiply(sign, f.rt, f.ra, f.rb, f.rc))
+    settle_whole(i, forms::multiply(sign, f.rt, f.ra, f.rb, f.rc))
 }
 
 fn logic_imm(f: Fields, op: LogicImmOp) -> Decoded
+    requires { ⌜ IsFields f × (f .op ≡ logicImmCode op) ⌝ }
     ensures { λ r. ⌜ r ≡ settleOf (f .word) (logicImmAt op f) ⌝ }
 {
     let i = Instr::Logical(Logical::Immediate {
@@ -258,11 +276,11 @@ fn logic_imm(f: Fields, op: LogicImmOp) -> Decoded
         ra: f.ra,
         ui: f.imm,
     });
-    settle(f.word, i, forms::logic_imm(op, f.rt, f.ra, f.imm))
+    settle_whole(i, forms::logic_imm(op, f.rt, f.ra, f.imm))
 }
 
 fn logic(f: Fields, op: LogicOp) -> Decoded
-    requires { ⌜ f .x ≡ logicCode op ⌝ }
+    requires { ⌜ IsFields f × (f .op ≡ 31) × (f .x ≡ logicCode op) ⌝ }
     ensures { λ r. ⌜ r ≡ settleOf (f .word) (logicAt op f) ⌝ }
 {
     let i = Instr::Logical(Logical::Register {
@@ -272,9 +290,7 @@ fn logic(f: Fields, op: LogicOp) -> Decoded
         rb: f.rb,
         rc: f.rc,
     });
-    let valid = three_defined(f.rt, f.ra, f.rb);
-    let word = word_x(31, f.rt, f.ra, f.rb, f.x as u32, f.rc);
-    settle(f.word, i, written(valid, word))
+    settle_whole(i, forms::logic(op, f.rt, f.ra, f.rb, f.rc))
 }
 
 fn logic_one(f: Fields, op: LogicOneOp) -> Decoded
@@ -312,6 +328,7 @@ fn compare(f: Fields, sign: Sign) -> Decoded
 }
 
 fn rotate_imm(f: Fields, op: RotateOp) -> Decoded
+    requires { ⌜ IsFields f × (f .op ≡ rotateCode op) ⌝ }
     ensures { λ r. ⌜ r ≡ settleOf (f .word) (rotateImmAt op f) ⌝ }
 {
     let i = Instr::Rotate(Rotate::Immediate {
@@ -323,14 +340,14 @@ fn rotate_imm(f: Fields, op: RotateOp) -> Decoded
         me: f.me,
         rc: f.rc,
     });
-    settle(
-        f.word,
+    settle_whole(
         i,
         forms::rotate_imm(op, f.rt, f.ra, f.rb as u16, f.mb, f.me, f.rc),
     )
 }
 
 fn rotate(f: Fields) -> Decoded
+    requires { ⌜ IsFields f × (f .op ≡ 23) ⌝ }
     ensures { λ r. ⌜ r ≡ settleOf (f .word) (rotateAt f) ⌝ }
 {
     let i = Instr::Rotate(Rotate::Register {
@@ -341,10 +358,11 @@ fn rotate(f: Fields) -> Decoded
         me: f.me,
         rc: f.rc,
     });
-    settle(f.word, i, forms::rotate(f.rt, f.ra, f.rb, f.mb, f.me, f.rc))
+    settle_whole(i, forms::rotate(f.rt, f.ra, f.rb, f.mb, f.me, f.rc))
 }
 
 fn shift(f: Fields, op: ShiftOp) -> Decoded
+    requires { ⌜ IsFields f × (f .op ≡ 31) × (f .x ≡ shiftCode op) ⌝ }
     ensures { λ r. ⌜ r ≡ settleOf (f .word) (shiftAt op f) ⌝ }
 {
     let i = Instr::Rotate(Rotate::Shift {
@@ -354,10 +372,11 @@ fn shift(f: Fields, op: ShiftOp) -> Decoded
         rb: f.rb,
         rc: f.rc,
     });
-    settle(f.word, i, forms::shift(op, f.rt, f.ra, f.rb, f.rc))
+    settle_whole(i, forms::shift(op, f.rt, f.ra, f.rb, f.rc))
 }
 
 fn srawi(f: Fields) -> Decoded
+    requires { ⌜ IsFields f × (f .op ≡ 31) × (f .x ≡ 824) ⌝ }
     ensures { λ r. ⌜ r ≡ settleOf (f .word) (srawiAt f) ⌝ }
 {
     let i = Instr::Rotate(Rotate::Srawi {
@@ -366,10 +385,11 @@ fn srawi(f: Fields) -> Decoded
         sh: f.rb,
         rc: f.rc,
     });
-    settle(f.word, i, forms::srawi(f.rt, f.ra, f.rb, f.rc))
+    settle_whole(i, forms::srawi(f.rt, f.ra, f.rb, f.rc))
 }
 
 fn load(f: Fields, width: Width, update: bool) -> Decoded
+    requires { ⌜ IsFields f × (f .op ≡ loadCode width update) ⌝ }
     ensures { λ r. ⌜ r ≡ settleOf (f .word) (loadAt width update f) ⌝ }
 {
     let i = Instr::LoadStore(LoadStore::Load {
@@ -379,7 +399,7 @@ fn load(f: Fields, width: Width, update: bool) -> Decoded
         ra: f.ra,
         d: f.imm,
     });
-    settle(f.word, i, forms::load(width, update, f.rt, f.ra, f.imm))
+    settle_whole(i, forms::load(width, update, f.rt, f.ra, f.imm))
 }
 
 fn load_indexed(f: Fields, width: Width) -> Decoded
@@ -395,6 +415,7 @@ fn load_indexed(f: Fields, width: Width) -> Decoded
 }
 
 fn store(f: Fields, width: Width, update: bool) -> Decoded
+    requires { ⌜ IsFields f × (f .op ≡ storeCode width update) ⌝ }
     ensures { λ r. ⌜ r ≡ settleOf (f .word) (storeAt width update f) ⌝ }
 {
     let i = Instr::LoadStore(LoadStore::Store {
@@ -404,7 +425,7 @@ fn store(f: Fields, width: Width, update: bool) -> Decoded
         ra: f.ra,
         d: f.imm,
     });
-    settle(f.word, i, forms::store(width, update, f.rt, f.ra, f.imm))
+    settle_whole(i, forms::store(width, update, f.rt, f.ra, f.imm))
 }
 
 fn store_indexed(f: Fields, width: Width) -> Decoded
@@ -420,6 +441,7 @@ fn store_indexed(f: Fields, width: Width) -> Decoded
 }
 
 fn branch(f: Fields) -> Decoded
+    requires { ⌜ IsFields f × (f .op ≡ 18) ⌝ }
     ensures { λ r. ⌜ r ≡ settleOf (f .word) (branchAt f) ⌝ }
 {
     let i = Instr::Branch(Branch::Always {
@@ -427,10 +449,11 @@ fn branch(f: Fields) -> Decoded
         lk: f.rc,
         li: f.li,
     });
-    settle(f.word, i, forms::branch(f.aa, f.rc, f.li))
+    settle_whole(i, forms::branch(f.aa, f.rc, f.li))
 }
 
 fn branch_if(f: Fields) -> Decoded
+    requires { ⌜ IsFields f × (f .op ≡ 16) ⌝ }
     ensures { λ r. ⌜ r ≡ settleOf (f .word) (branchIfAt f) ⌝ }
 {
     let i = Instr::Branch(Branch::Conditional {
@@ -440,10 +463,11 @@ fn branch_if(f: Fields) -> Decoded
         aa: f.aa,
         lk: f.rc,
     });
-    settle(f.word, i, forms::branch_if(f.rt, f.ra, f.bd, f.aa, f.rc))
+    settle_whole(i, forms::branch_if(f.rt, f.ra, f.bd, f.aa, f.rc))
 }
 
 fn branch_to(f: Fields, op: BranchOp) -> Decoded
+    requires { ⌜ IsFields f × (f .op ≡ 19) × (f .x ≡ branchCode op) ⌝ }
     ensures { λ r. ⌜ r ≡ settleOf (f .word) (branchToAt op f) ⌝ }
 {
     let i = Instr::Branch(Branch::Register {
@@ -453,10 +477,11 @@ fn branch_to(f: Fields, op: BranchOp) -> Decoded
         bh: f.rb,
         lk: f.rc,
     });
-    settle(f.word, i, forms::branch_to(op, f.rt, f.ra, f.rb, f.rc))
+    settle_whole(i, forms::branch_to(op, f.rt, f.ra, f.rb, f.rc))
 }
 
 fn trap(f: Fields) -> Decoded
+    requires { ⌜ IsFields f × (f .op ≡ 31) × (f .x ≡ 4) ⌝ }
     ensures { λ r. ⌜ r ≡ settleOf (f .word) (trapAt f) ⌝ }
 {
     let i = Instr::Trap {
@@ -465,7 +490,7 @@ fn trap(f: Fields) -> Decoded
         rb: f.rb,
         tg: f.rc,
     };
-    settle(f.word, i, forms::trap(f.rt, f.ra, f.rb, f.rc))
+    settle_whole(i, forms::trap(f.rt, f.ra, f.rb, f.rc))
 }
 
 fn move_spr(f: Fields, op: SprOp) -> Decoded

@@ -136,7 +136,8 @@ impl State {
     fn arith_reg(self, op: ArithOp, rt: u8, ra: u8, rb: u8, oe: bool, rc: bool) -> State
         ensures { λ r. ⌜ r ≡ summedOf self rt (regSum op (gprOf self ra) (gprOf self rb) (carryOf self)) (regCarries op) oe rc ⌝ }
     {
-        let sum = reg_sum(op, self.reg(ra), self.reg(rb), self.carry());
+        let got = self.pair(ra, rb);
+        let sum = reg_sum(op, got.a, got.b, self.carry());
         self.finish_sum(rt, sum, reg_carries(op), oe, rc)
     }
 
@@ -150,7 +151,8 @@ impl State {
     fn multiply(self, sign: Sign, rt: u8, ra: u8, rb: u8, rc: bool) -> State
         ensures { λ r. ⌜ r ≡ resultOf self rt (product sign (gprOf self ra) (gprOf self rb)) rc ⌝ }
     {
-        let v = product_of(sign, self.reg(ra), self.reg(rb));
+        let got = self.pair(ra, rb);
+        let v = product_of(sign, got.a, got.b);
         self.finish(rt, v, rc)
     }
 

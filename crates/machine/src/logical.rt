@@ -79,7 +79,8 @@ impl State {
     fn logical_reg(self, op: LogicOp, rs: u8, ra: u8, rb: u8, rc: bool) -> State
         ensures { λ r. ⌜ r ≡ resultOf self ra (logicReg op (gprOf self rs) (gprOf self rb)) rc ⌝ }
     {
-        let v = logic_reg(op, self.reg(rs), self.reg(rb));
+        let got = self.pair(rs, rb);
+        let v = logic_reg(op, got.a, got.b);
         self.finish(ra, v, rc)
     }
 

@@ -49,8 +49,9 @@ impl State {
     fn shift(self, op: ShiftOp, rs: u8, ra: u8, rb: u8, rc: bool) -> State
         ensures { λ r. ⌜ r ≡ shiftOf self op rs ra rb rc ⌝ }
     {
-        let s = self.reg(rs);
-        let n = amount(self.reg(rb));
+        let got = self.pair(rs, rb);
+        let s = got.a;
+        let n = amount(got.b);
         match op {
             ShiftOp::Slw => self.finish(ra, left(s, n), rc),
             ShiftOp::Srw => self.finish(ra, right(s, n), rc),
@@ -61,16 +62,18 @@ impl State {
     fn rotate_imm(self, op: RotateOp, rs: u8, ra: u8, sh: u16, mb: u8, me: u8, rc: bool) -> State
         ensures { λ r. ⌜ r ≡ resultOf self ra (merged op (rotl (gprOf self rs) (sh % 2 ^ 5)) (maskFor mb me) (gprOf self ra)) rc ⌝ }
     {
-        let r = rotate_left(self.reg(rs), Shift((sh % 32) as u8));
-        let v = merge(op, r, mask_for(mb, me), self.reg(ra));
+        let got = self.pair(rs, ra);
+        let r = rotate_left(got.a, Shift((sh % 32) as u8));
+        let v = merge(op, r, mask_for(mb, me), got.b);
         self.finish(ra, v, rc)
     }
 
     fn rotate_reg(self, rs: u8, ra: u8, rb: u8, mb: u8, me: u8, rc: bool) -> State
         ensures { λ r. ⌜ r ≡ resultOf self ra (bitAnd (rotl (gprOf self rs) (gprOf self rb % 2 ^ 5)) (maskFor mb me)) rc ⌝ }
     {
-        let n = (self.reg(rb) % 32) as u8;
-        let v = rotate_left(self.reg(rs), Shift(n)) & mask_for(mb, me);
+        let got = self.pair(rs, rb);
+        let n = (got.b % 32) as u8;
+        let v = rotate_left(got.a, Shift(n)) & mask_for(mb, me);
         self.finish(ra, v, rc)
     }
 

@@ -51,6 +51,12 @@ pub enum Reg {
     Halt,
 }
 
+// The contents of two GPRs.
+pub struct Pair {
+    pub a: u32,
+    pub b: u32,
+}
+
 // Where a register stands among the sixteen.
 fn place(n: u8) -> usize
     ensures { λ r. ⌜ r ≡ placeOf n ⌝ }
@@ -68,6 +74,19 @@ impl State {
         let at = place(n);
         let gpr = self.gpr;
         gpr[at]
+    }
+
+    // The contents of two GPRs, out of one copy of the sixteen.
+    pub fn pair(self, m: u8, n: u8) -> Pair
+        ensures { λ r. ⌜ (r .a ≡ gprOf self m) × (r .b ≡ gprOf self n) ⌝ }
+    {
+        let first = place(m);
+        let second = place(n);
+        let gpr = self.gpr;
+        Pair {
+            a: gpr[first],
+            b: gpr[second],
+        }
     }
 
     // (RA|0): the contents of RA, or 0 if RA is 0.

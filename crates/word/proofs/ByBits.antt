@@ -57,7 +57,7 @@ bit-inv x i hx hi =
     ap (λ (w : ℕ). bitAt w i) (inv-xor x hx) ∙ bit-xor x 0xFFFF_FFFF i ∙ ap (xor (bitAt x i)) (all-one i hi) ∙ xor-true (bitAt x i)
 
 -- a digit is its own number
-digit-of : (d : ℕ) → d < 2 → digit (eqb d 1) ≡ d
+pub digit-of : (d : ℕ) → d < 2 → digit (eqb d 1) ≡ d
 digit-of zero h = refl
 digit-of (suc zero) h = refl
 digit-of (suc (suc d)) h = omega arith

@@ -1,5 +1,8 @@
--- `insn::read::arith` meets its contract: with the mnemonic's opcode, the word put together again is the instruction's. Assumes nothing.
+-- `insn::read::arith` meets its contract: the form names every bit. Assumes nothing.
 use borrow.Author.Needs.{needs}
+use Rattle.insn.specs.Read.{arithAt}
+use Rattle.insn.proofs.Laws.{whole}
+use Rattle.insn.proofs.Parts.{xo-whole}
 use Rattle.insn.proofs.read.arith.Statement.{statement}
 use Rattle.insn.proofs.read.arith.Tie as tie
 
@@ -8,8 +11,5 @@ arith-spec =
     tie.close
     (tie.spec
     (λ c κs. search needs)
-    (λ c. search needs)
     (λ c κs. search needs)
-    (λ c κs. search needs)
-    (λ c κs. rw (c .written .ensures, c .before .word-xo .ensures, c .before .before .before .three-defined .ensures, c .before .before .before .before .pre))
-    (λ c. search needs))
+    (λ c. whole (arithAt (c .before .before .args .op) (c .before .before .args .f)) (c .settle-whole .ensures) (xo-whole (c .before .before .args .f) (c .before .before .pre))))

@@ -1,5 +1,8 @@
--- `insn::read::logic` meets its contract: with the mnemonic's opcode, the word put together again is the instruction's. Assumes nothing.
+-- `insn::read::logic` meets its contract: the form names every bit. Assumes nothing.
 use borrow.Author.Needs.{needs}
+use Rattle.insn.specs.Read.{logicAt}
+use Rattle.insn.proofs.Laws.{whole}
+use Rattle.insn.proofs.Parts.{x-whole}
 use Rattle.insn.proofs.read.logic.Statement.{statement}
 use Rattle.insn.proofs.read.logic.Tie as tie
 
@@ -8,8 +11,5 @@ logic-spec =
     tie.close
     (tie.spec
     (λ c κs. search needs)
-    (λ c. search needs)
     (λ c κs. search needs)
-    (λ c κs. search needs)
-    (λ c κs. rw (c .written .ensures, c .before .word-x .ensures, c .before .before .before .three-defined .ensures, c .before .before .before .before .pre))
-    (λ c. search needs))
+    (λ c. whole (logicAt (c .before .before .args .op) (c .before .before .args .f)) (c .settle-whole .ensures) (x-whole (c .before .before .args .f) (c .before .before .pre))))

@@ -1,6 +1,8 @@
 use Rattle.insn.specs.Fields.{fieldsOf}
 use Rattle.insn.specs.Read.{decodeOf}
+use native.Mathlib.Omega.{arith}
 use borrow.Author.Needs.{needs}
+use Rattle.insn.proofs.Parts.{fields-are}
 use Rattle.insn.proofs.read.read.Statement.{statement}
 use Rattle.insn.proofs.read.read.Tie as tie
 
@@ -10,7 +12,7 @@ fields-of-requires c κs = search needs
 
 -- src/read.rt:14:5
 read-primary-requires : tie.Need-read-primary-requires
-read-primary-requires c κs = search needs
+read-primary-requires c κs = fields-are (omega arith) (c .fields-of .ensures)
 
 -- src/read.rt:11:1
 returns : tie.Need-returns

@@ -12,5 +12,4 @@ arith-reg-spec =
     (λ c κs. search needs)
     (λ c κs. search needs)
     (λ c κs. search needs)
-    (λ c κs. search needs)
-    (λ c. rw (c .finish-sum .ensures, c .before .reg-carries .ensures, c .before .before .reg-sum .ensures, c .before .before .before .carry .ensures, c .before .before .before .before .reg2 .ensures, c .before .before .before .before .before .reg .ensures)))
+    (λ c. rw (c .finish-sum .ensures, c .before .reg-carries .ensures, c .before .before .reg-sum .ensures, c .before .before .before .carry .ensures, c .before .before .before .before .pair .ensures .0, c .before .before .before .before .pair .ensures .1)))

@@ -10,5 +10,4 @@ multiply-spec =
     (λ c κs. search needs)
     (λ c κs. search needs)
     (λ c κs. search needs)
-    (λ c κs. search needs)
-    (λ c. rw (c .finish .ensures, c .before .product-of .ensures, c .before .before .reg2 .ensures, c .before .before .before .reg .ensures)))
+    (λ c. rw (c .finish .ensures, c .before .product-of .ensures, c .before .before .pair .ensures .0, c .before .before .pair .ensures .1)))

@@ -13,5 +13,4 @@ rotate-imm-spec =
     (λ c κs. search needs)
     (λ c κs. search needs)
     (λ c κs. search needs)
-    (λ c κs. search needs)
-    (λ c. rw (c .finish .ensures, c .before .merge .ensures, c .before .before .reg2 .ensures, c .before .before .before .mask-for .ensures, c .before .before .before .before .rotate-left .ensures, c .before .before .before .before .before .reg .ensures)))
+    (λ c. rw (c .finish .ensures, c .before .merge .ensures, c .before .before .mask-for .ensures, c .before .before .before .rotate-left .ensures, c .before .before .before .before .pair .ensures .0, c .before .before .before .before .pair .ensures .1)))

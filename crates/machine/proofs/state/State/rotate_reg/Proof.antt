@@ -12,5 +12,4 @@ rotate-reg-spec =
     (λ c κs. search needs)
     (λ c κs. search needs)
     (λ c κs. search needs)
-    (λ c κs. search needs)
-    (λ c. rw (c .finish .ensures, c .before .mask-for .ensures, c .before .before .rotate-left .ensures, c .before .before .before .reg2 .ensures, c .before .before .before .before .reg .ensures)))
+    (λ c. rw (c .finish .ensures, c .before .mask-for .ensures, c .before .before .rotate-left .ensures, c .before .before .before .before .pair .ensures .0, c .before .before .before .before .pair .ensures .1)))

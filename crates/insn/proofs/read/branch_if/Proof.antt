@@ -1,0 +1,15 @@
+-- `insn::read::branch_if` meets its contract: the form names every bit. Assumes nothing.
+use borrow.Author.Needs.{needs}
+use Rattle.insn.specs.Read.{branchIfAt}
+use Rattle.insn.proofs.Laws.{whole}
+use Rattle.insn.proofs.Parts.{b-whole}
+use Rattle.insn.proofs.read.branch_if.Statement.{statement}
+use Rattle.insn.proofs.read.branch_if.Tie as tie
+
+pub branch-if-spec : {M : Type 1} → statement M
+branch-if-spec =
+    tie.close
+    (tie.spec
+    (λ c κs. search needs)
+    (λ c κs. search needs)
+    (λ c. whole (branchIfAt (c .before .before .args .f)) (c .settle-whole .ensures) (b-whole (c .before .before .args .f) (c .before .before .pre))))
