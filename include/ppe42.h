@@ -1,6 +1,7 @@
 /* The bench core from C. Link the archive that ./library writes.
  *
- * Each function answers what the proved operation of the same name answers; nothing is decided at this boundary.
+ * Each function answers what the proved operations answer. All that is decided here is that a state of other than 144 bytes
+ * gets refusal 7.
  * A state is 36 big-endian words, 144 bytes: r0 to r10, r13, r28 to r31; CR, CTR, DACR, DBCR, DEC, EDR, ISR, IVPR, LR,
  * MSR, PIR, PVR, SPRG0, SRR0, SRR1, TCR, TSR, XER; IAR; the halt code.
  * Lent buffers must not overlap. An empty buffer may have any pointer. */
@@ -28,7 +29,7 @@ static inline uint32_t ppe42_count(uint64_t answer) { return (uint32_t)answer; }
 /* 1 if the word is an instruction, 0 if it is illegal. */
 uint32_t ppe42_legal(uint32_t word);
 
-/* 2^32 and the word that reading and then writing gives, or 0 if the word is illegal. */
+/* 2^32 plus the word that reading and then writing gives, or 0 if the word is illegal. */
 uint64_t ppe42_rewrite(uint32_t word);
 
 /* A run: state and memory change in place. The answer is the refusal above and the steps taken below; a refusal leaves

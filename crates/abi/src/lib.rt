@@ -1,4 +1,5 @@
-// The C boundary: exported functions on numbers and lent bytes, declared in include/ppe42.h. Nothing is decided here.
+// The C boundary: exported functions on numbers and lent bytes, declared in include/ppe42.h. All that is
+// decided here is that a state of other than 144 bytes gets refusal 7 (docs/DECISIONS.md D31).
 ghost use mathlib.Core.Path.{_≡_};
 ghost use lib.ListN.{length};
 ghost use Rattle.insn.specs.Read.{decodeOf};
@@ -43,7 +44,7 @@ pub extern "C" fn ppe42_legal(word: u32) -> u32
     }
 }
 
-// 2^32 and the word that reading and then writing gives, or 0 for an illegal one.
+// 2^32 plus the word that reading and then writing gives, or 0 for an illegal one.
 #[no_mangle]
 pub extern "C" fn ppe42_rewrite(word: u32) -> u64
     ensures { λ r. ⌜ r ≡ rewriteOf (decodeOf word) ⌝ }

@@ -1,5 +1,5 @@
 // A word as its instruction, or illegal: its opcodes suggest a form and a mnemonic, its parts the operands. What they make is
-// read if it is valid and written as the same word; a form that names every bit is, and is not compared.
+// read if it is valid and written as the same word. A form that names every bit always is, so there no words are compared.
 ghost use mathlib.Core.Path.{_≡_};
 ghost use mathlib.Core.Bool.{cond};
 ghost use Rattle.insn.specs.Codes.{arithImmCode, arithCode, multiplyCode, logicImmCode, logicCode, rotateCode, shiftCode, loadCode, storeCode, branchCode};

@@ -1,4 +1,4 @@
-// What becomes of an access: the board's rule, in one place.
+// What becomes of an access: the board's rule.
 ghost use mathlib.Core.Path.{_≡_};
 ghost use Prim.Native.Nat.{_%_};
 ghost use lib.Dec.{eqb};

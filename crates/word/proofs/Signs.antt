@@ -5,7 +5,7 @@ use native.Mathlib.Nat.{mod-eq-of-lt, div-eq-of-lt, mul-comm}
 use native.Mathlib.Omega.{arith}
 use lib.Arith.{digits-div}
 use lib.Dec.{ltb, lit<, lit≤}
-use lib.IntN.{ℤ, pos, negsuc, negℤ, _*ℤ_}
+use lib.IntN.{pos, negsuc, negℤ, _*ℤ_}
 use lib.Signed.{shrZ}
 use mir.Syntax.{w8, w16, w32}
 use mir.Val.{toZ, ofZ, sel}

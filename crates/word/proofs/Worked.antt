@@ -1,4 +1,4 @@
--- Worked numbers of words, each beside what the bench prints for it. Assumes nothing.
+-- Worked numbers of words, each beside the one that the scope gives. Assumes nothing.
 use mathlib.Core.Path.{_≡_, refl}
 use mathlib.Core.Bool.{false, true}
 use mathlib.Core.List.{List, [], _∷_, map}

@@ -9,7 +9,7 @@ pub extern "C" fn ppe42_legal(word: u32) -> u32 {
     second::legal(word) as u32
 }
 
-/// This core reads words in place and has no writer: the answer is the word itself, as the owner's demand 2 says.
+/// This core reads words in place and has no writer: the answer is the word itself, as demand 2 says.
 #[no_mangle]
 pub extern "C" fn ppe42_rewrite(word: u32) -> u64 {
     if second::legal(word) {

@@ -2,51 +2,39 @@ use borrow.Author.Needs.{needs}
 use Rattle.insn.proofs.codes.store_code.Statement.{statement}
 use Rattle.insn.proofs.codes.store_code.Tie as tie
 
--- src/codes.rt:142:29
 enum-told : tie.Need-enum-told
 enum-told c = search needs
 
--- src/codes.rt:142:29
 digit-of-requires : tie.Need-digit-of-requires
 digit-of-requires c κs = search needs
 
--- src/codes.rt:142:24
 add-result : tie.Need-add-result
 add-result c = search needs
 
--- src/codes.rt:143:29
 enum-told-2 : tie.Need-enum-told-2
 enum-told-2 c = search needs
 
--- src/codes.rt:143:29
 digit-of-requires-2 : tie.Need-digit-of-requires-2
 digit-of-requires-2 c κs = search needs
 
--- src/codes.rt:143:24
 add-result-2 : tie.Need-add-result-2
 add-result-2 c = search needs
 
--- src/codes.rt:144:29
 enum-told-3 : tie.Need-enum-told-3
 enum-told-3 c = search needs
 
--- src/codes.rt:144:29
 digit-of-requires-3 : tie.Need-digit-of-requires-3
 digit-of-requires-3 c κs = search needs
 
--- src/codes.rt:144:24
 add-result-3 : tie.Need-add-result-3
 add-result-3 c = search needs
 
--- src/codes.rt:138:1
 returns : tie.Need-returns
 returns c = rw (c .before .enum-told .given .1, c .digit-of .ensures .0)
 
--- src/codes.rt:138:1
 returns-2 : tie.Need-returns-2
 returns-2 c = rw (c .before .enum-told2 .given .1, c .digit-of2 .ensures .0)
 
--- src/codes.rt:138:1
 returns-3 : tie.Need-returns-3
 returns-3 c = rw (c .before .enum-told3 .given .1, c .digit-of3 .ensures .0)
 

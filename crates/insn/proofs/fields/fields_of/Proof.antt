@@ -14,111 +14,84 @@ made : (f : Fields) → f .op ≡ bitsAt (f .word) 0 5 → f .rt ≡ bitsAt (f .
 unfolding fieldsOf
 made f op rt ra rb mb me x xo imm bd li spr e oe aa rc = rw (← spr, ← op, ← rt, ← ra, ← rb, ← mb, ← me, ← x, ← xo, ← imm, ← bd, ← li, ← e, ← oe, ← aa, ← rc)
 
--- src/fields.rt:32:13
 bits-at-requires : tie.Need-bits-at-requires
 bits-at-requires c κs = search needs
 
--- src/fields.rt:32:13
 cast-t5 : tie.Need-cast-t5
 cast-t5 c = search needs
 
--- src/fields.rt:33:13
 bits-at-requires-2 : tie.Need-bits-at-requires-2
 bits-at-requires-2 c κs = search needs
 
--- src/fields.rt:33:13
 cast-t9 : tie.Need-cast-t9
 cast-t9 c = search needs
 
--- src/fields.rt:34:13
 bits-at-requires-3 : tie.Need-bits-at-requires-3
 bits-at-requires-3 c κs = search needs
 
--- src/fields.rt:34:13
 cast-t13 : tie.Need-cast-t13
 cast-t13 c = search needs
 
--- src/fields.rt:35:13
 bits-at-requires-4 : tie.Need-bits-at-requires-4
 bits-at-requires-4 c κs = search needs
 
--- src/fields.rt:35:13
 cast-t17 : tie.Need-cast-t17
 cast-t17 c = search needs
 
--- src/fields.rt:36:13
 bits-at-requires-5 : tie.Need-bits-at-requires-5
 bits-at-requires-5 c κs = search needs
 
--- src/fields.rt:36:13
 cast-t21 : tie.Need-cast-t21
 cast-t21 c = search needs
 
--- src/fields.rt:37:13
 bits-at-requires-6 : tie.Need-bits-at-requires-6
 bits-at-requires-6 c κs = search needs
 
--- src/fields.rt:37:13
 cast-t25 : tie.Need-cast-t25
 cast-t25 c = search needs
 
--- src/fields.rt:38:12
 bits-at-requires-7 : tie.Need-bits-at-requires-7
 bits-at-requires-7 c κs = search needs
 
--- src/fields.rt:38:12
 cast-t29 : tie.Need-cast-t29
 cast-t29 c = search needs
 
--- src/fields.rt:39:13
 bits-at-requires-8 : tie.Need-bits-at-requires-8
 bits-at-requires-8 c κs = search needs
 
--- src/fields.rt:39:13
 cast-t33 : tie.Need-cast-t33
 cast-t33 c = search needs
 
--- src/fields.rt:40:14
 bits-at-requires-9 : tie.Need-bits-at-requires-9
 bits-at-requires-9 c κs = search needs
 
--- src/fields.rt:40:14
 cast-t37 : tie.Need-cast-t37
 cast-t37 c = search needs
 
--- src/fields.rt:41:13
 bits-at-requires-10 : tie.Need-bits-at-requires-10
 bits-at-requires-10 c κs = search needs
 
--- src/fields.rt:41:13
 cast-t41 : tie.Need-cast-t41
 cast-t41 c = search needs
 
--- src/fields.rt:42:13
 bits-at-requires-11 : tie.Need-bits-at-requires-11
 bits-at-requires-11 c κs = search needs
 
--- src/fields.rt:43:14
 spr-of-requires : tie.Need-spr-of-requires
 spr-of-requires c κs = search needs
 
--- src/fields.rt:44:12
 bit-at-requires : tie.Need-bit-at-requires
 bit-at-requires c κs = search needs
 
--- src/fields.rt:45:13
 bit-at-requires-2 : tie.Need-bit-at-requires-2
 bit-at-requires-2 c κs = search needs
 
--- src/fields.rt:46:13
 bit-at-requires-3 : tie.Need-bit-at-requires-3
 bit-at-requires-3 c κs = search needs
 
--- src/fields.rt:47:13
 bit-at-requires-4 : tie.Need-bit-at-requires-4
 bit-at-requires-4 c κs = search needs
 
--- src/fields.rt:27:1
 returns : tie.Need-returns
 returns c = made _ (c .before .before .before .before .before .before .before .before .before .before .before .before .before .before .before .bits-at .ensures) (c .before .before .before .before .before .before .before .before .before .before .before .before .before .before .bits-at2 .ensures) (c .before .before .before .before .before .before .before .before .before .before .before .before .before .bits-at3 .ensures) (c .before .before .before .before .before .before .before .before .before .before .before .before .bits-at4 .ensures) (c .before .before .before .before .before .before .before .before .before .before .before .bits-at5 .ensures) (c .before .before .before .before .before .before .before .before .before .before .bits-at6 .ensures) (c .before .before .before .before .before .before .before .before .before .bits-at7 .ensures) (c .before .before .before .before .before .before .before .before .bits-at8 .ensures) (c .before .before .before .before .before .before .before .bits-at9 .ensures) (c .before .before .before .before .before .before .bits-at10 .ensures) (c .before .before .before .before .before .bits-at11 .ensures) (c .before .before .before .before .spr-of .ensures) (c .before .before .before .bit-at .ensures) (c .before .before .bit-at2 .ensures) (c .before .bit-at3 .ensures) (c .bit-at4 .ensures)
 

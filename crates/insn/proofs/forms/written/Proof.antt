@@ -1,11 +1,9 @@
 use Rattle.insn.proofs.forms.written.Statement.{statement}
 use Rattle.insn.proofs.forms.written.Tie as tie
 
--- src/forms.rt:19:1
 returns : tie.Need-returns
 returns c = rw (c .if1 .taken)
 
--- src/forms.rt:19:1
 returns-2 : tie.Need-returns-2
 returns-2 c = rw (c .if1 .left)
 

@@ -6,15 +6,12 @@ use Rattle.insn.proofs.Parts.{fields-are}
 use Rattle.insn.proofs.read.read.Statement.{statement}
 use Rattle.insn.proofs.read.read.Tie as tie
 
--- src/read.rt:14:18
 fields-of-requires : tie.Need-fields-of-requires
 fields-of-requires c κs = search needs
 
--- src/read.rt:14:5
 read-primary-requires : tie.Need-read-primary-requires
 read-primary-requires c κs = fields-are (omega arith) (c .fields-of .ensures)
 
--- src/read.rt:11:1
 returns : tie.Need-returns
 unfolding decodeOf fieldsOf
 returns c = rw (c .read-primary .ensures, c .before .fields-of .ensures)

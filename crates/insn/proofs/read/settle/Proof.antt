@@ -4,11 +4,9 @@ use Rattle.insn.specs.Valid.{validOf}
 use Rattle.insn.proofs.read.settle.Statement.{statement}
 use Rattle.insn.proofs.read.settle.Tie as tie
 
--- src/read.rt:179:1
 returns : tie.Need-returns
 returns c = rw (← same-test (validOf (c .before .before .before .args .i)) (wordOf (c .before .before .before .args .i)), ← c .before .before .before .pre, c .if1 .taken)
 
--- src/read.rt:179:1
 returns-2 : tie.Need-returns-2
 returns-2 c = rw (← same-test (validOf (c .before .before .before .args .i)) (wordOf (c .before .before .before .args .i)), ← c .before .before .before .pre, c .if1 .left)
 

@@ -2,23 +2,18 @@ use borrow.Author.Needs.{needs}
 use Rattle.insn.proofs.valid.branch_form.Statement.{statement}
 use Rattle.insn.proofs.valid.branch_form.Tie as tie
 
--- src/valid.rt:89:27
 enum-told : tie.Need-enum-told
 enum-told c = search needs
 
--- src/valid.rt:90:28
 enum-told-2 : tie.Need-enum-told-2
 enum-told-2 c = search needs
 
--- src/valid.rt:90:28
 bo-bit-requires : tie.Need-bo-bit-requires
 bo-bit-requires c κs = search needs
 
--- src/valid.rt:85:1
 returns : tie.Need-returns
 returns c = search needs
 
--- src/valid.rt:85:1
 returns-2 : tie.Need-returns-2
 returns-2 c = rw (c .before .enum-told2 .given .1, c .bo-bit .ensures)
 

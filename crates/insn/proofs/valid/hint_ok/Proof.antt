@@ -2,35 +2,27 @@ use borrow.Author.Needs.{needs}
 use Rattle.insn.proofs.valid.hint_ok.Statement.{statement}
 use Rattle.insn.proofs.valid.hint_ok.Tie as tie
 
--- src/valid.rt:104:26
 enum-told : tie.Need-enum-told
 enum-told c = search needs
 
--- src/valid.rt:105:26
 enum-told-2 : tie.Need-enum-told-2
 enum-told-2 c = search needs
 
--- src/valid.rt:106:26
 enum-told-3 : tie.Need-enum-told-3
 enum-told-3 c = search needs
 
--- src/valid.rt:107:26
 enum-told-4 : tie.Need-enum-told-4
 enum-told-4 c = search needs
 
--- src/valid.rt:100:1
 returns : tie.Need-returns
 returns c = rw (c .enum-told .given .1)
 
--- src/valid.rt:100:1
 returns-2 : tie.Need-returns-2
 returns-2 c = rw (c .enum-told2 .given .1)
 
--- src/valid.rt:100:1
 returns-3 : tie.Need-returns-3
 returns-3 c = rw (c .enum-told3 .given .1)
 
--- src/valid.rt:100:1
 returns-4 : tie.Need-returns-4
 returns-4 c = rw (c .enum-told4 .given .1)
 

@@ -3,7 +3,6 @@ use mathlib.Core.Path.{refl}
 use Rattle.insn.proofs.valid.is_spr.Statement.{statement}
 use Rattle.insn.proofs.valid.is_spr.Tie as tie
 
--- src/valid.rt:28:1
 returns : tie.Need-returns
 unfolding isSpr
 returns c = refl

@@ -3,7 +3,6 @@ use mathlib.Core.Path.{refl}
 use Rattle.insn.proofs.valid.read_only.Statement.{statement}
 use Rattle.insn.proofs.valid.read_only.Tie as tie
 
--- src/valid.rt:50:1
 returns : tie.Need-returns
 unfolding readOnly
 returns c = refl

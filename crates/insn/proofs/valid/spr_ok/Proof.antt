@@ -2,31 +2,24 @@ use borrow.Author.Needs.{needs}
 use Rattle.insn.proofs.valid.spr_ok.Statement.{statement}
 use Rattle.insn.proofs.valid.spr_ok.Tie as tie
 
--- src/valid.rt:60:25
 enum-told : tie.Need-enum-told
 enum-told c = search needs
 
--- src/valid.rt:60:25
 is-spr-requires : tie.Need-is-spr-requires
 is-spr-requires c κs = search needs
 
--- src/valid.rt:61:25
 enum-told-2 : tie.Need-enum-told-2
 enum-told-2 c = search needs
 
--- src/valid.rt:61:25
 is-spr-requires-2 : tie.Need-is-spr-requires-2
 is-spr-requires-2 c κs = search needs
 
--- src/valid.rt:61:38
 read-only-requires : tie.Need-read-only-requires
 read-only-requires c κs = search needs
 
--- src/valid.rt:56:1
 returns : tie.Need-returns
 returns c = rw (c .before .enum-told .given .1, c .is-spr .ensures)
 
--- src/valid.rt:56:1
 returns-2 : tie.Need-returns-2
 returns-2 c = rw (c .before .before .enum-told2 .given .1, c .read-only .ensures, c .before .is-spr2 .ensures)
 

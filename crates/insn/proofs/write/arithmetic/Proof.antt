@@ -2,51 +2,39 @@ use borrow.Author.Needs.{needs}
 use Rattle.insn.proofs.write.arithmetic.Statement.{statement}
 use Rattle.insn.proofs.write.arithmetic.Tie as tie
 
--- src/write.rt:28:33
 enum-known-a : tie.Need-enum-known-a
 enum-known-a c = search needs
 
--- src/write.rt:28:53
 arith-imm-requires : tie.Need-arith-imm-requires
 arith-imm-requires c κs = search needs
 
--- src/write.rt:30:13
 enum-known-a-2 : tie.Need-enum-known-a-2
 enum-known-a-2 c = search needs
 
--- src/write.rt:36:14
 arith-requires : tie.Need-arith-requires
 arith-requires c κs = search needs
 
--- src/write.rt:37:27
 enum-known-a-3 : tie.Need-enum-known-a-3
 enum-known-a-3 c = search needs
 
--- src/write.rt:37:51
 arith-one-requires : tie.Need-arith-one-requires
 arith-one-requires c κs = search needs
 
--- src/write.rt:39:13
 enum-known-a-4 : tie.Need-enum-known-a-4
 enum-known-a-4 c = search needs
 
--- src/write.rt:44:14
 multiply-requires : tie.Need-multiply-requires
 multiply-requires c κs = search needs
 
--- src/write.rt:24:1
 returns : tie.Need-returns
 returns c = rw (c .before .before .a .given .1, c .arith-imm .ensures)
 
--- src/write.rt:24:1
 returns-2 : tie.Need-returns-2
 returns-2 c = rw (c .before .before .a2 .given .1, c .arith .ensures)
 
--- src/write.rt:24:1
 returns-3 : tie.Need-returns-3
 returns-3 c = rw (c .before .before .a3 .given .1, c .arith-one .ensures)
 
--- src/write.rt:24:1
 returns-4 : tie.Need-returns-4
 returns-4 c = rw (c .before .before .a4 .given .1, c .multiply .ensures)
 

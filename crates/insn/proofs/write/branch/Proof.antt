@@ -2,39 +2,30 @@ use borrow.Author.Needs.{needs}
 use Rattle.insn.proofs.write.branch.Statement.{statement}
 use Rattle.insn.proofs.write.branch.Tie as tie
 
--- src/write.rt:120:26
 enum-known-b : tie.Need-enum-known-b
 enum-known-b c = search needs
 
--- src/write.rt:120:42
 branch-requires : tie.Need-branch-requires
 branch-requires c κs = search needs
 
--- src/write.rt:121:31
 enum-known-b-2 : tie.Need-enum-known-b-2
 enum-known-b-2 c = search needs
 
--- src/write.rt:121:55
 branch-if-requires : tie.Need-branch-if-requires
 branch-if-requires c κs = search needs
 
--- src/write.rt:122:28
 enum-known-b-3 : tie.Need-enum-known-b-3
 enum-known-b-3 c = search needs
 
--- src/write.rt:122:52
 branch-to-requires : tie.Need-branch-to-requires
 branch-to-requires c κs = search needs
 
--- src/write.rt:116:1
 returns : tie.Need-returns
 returns c = rw (c .before .before .b .given .1, c .branch .ensures)
 
--- src/write.rt:116:1
 returns-2 : tie.Need-returns-2
 returns-2 c = rw (c .before .before .b2 .given .1, c .branch-if .ensures)
 
--- src/write.rt:116:1
 returns-3 : tie.Need-returns-3
 returns-3 c = rw (c .before .before .b3 .given .1, c .branch-to .ensures)
 

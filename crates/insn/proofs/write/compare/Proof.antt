@@ -2,27 +2,21 @@ use borrow.Author.Needs.{needs}
 use Rattle.insn.proofs.write.compare.Statement.{statement}
 use Rattle.insn.proofs.write.compare.Tie as tie
 
--- src/write.rt:62:30
 enum-known-c : tie.Need-enum-known-c
 enum-known-c c = search needs
 
--- src/write.rt:62:49
 compare-imm-requires : tie.Need-compare-imm-requires
 compare-imm-requires c κs = search needs
 
--- src/write.rt:63:29
 enum-known-c-2 : tie.Need-enum-known-c-2
 enum-known-c-2 c = search needs
 
--- src/write.rt:63:47
 compare-requires : tie.Need-compare-requires
 compare-requires c κs = search needs
 
--- src/write.rt:58:1
 returns : tie.Need-returns
 returns c = rw (c .before .before .c .given .1, c .compare-imm .ensures)
 
--- src/write.rt:58:1
 returns-2 : tie.Need-returns-2
 returns-2 c = rw (c .before .before .c2 .given .1, c .compare .ensures)
 

@@ -2,51 +2,39 @@ use borrow.Author.Needs.{needs}
 use Rattle.insn.proofs.write.load_store.Statement.{statement}
 use Rattle.insn.proofs.write.load_store.Tie as tie
 
--- src/write.rt:98:13
 enum-known-s : tie.Need-enum-known-s
 enum-known-s c = search needs
 
--- src/write.rt:103:14
 load-requires : tie.Need-load-requires
 load-requires c κs = search needs
 
--- src/write.rt:104:34
 enum-known-s-2 : tie.Need-enum-known-s-2
 enum-known-s-2 c = search needs
 
--- src/write.rt:104:57
 load-indexed-requires : tie.Need-load-indexed-requires
 load-indexed-requires c κs = search needs
 
--- src/write.rt:106:13
 enum-known-s-3 : tie.Need-enum-known-s-3
 enum-known-s-3 c = search needs
 
--- src/write.rt:111:14
 store-requires : tie.Need-store-requires
 store-requires c κs = search needs
 
--- src/write.rt:112:35
 enum-known-s-4 : tie.Need-enum-known-s-4
 enum-known-s-4 c = search needs
 
--- src/write.rt:112:58
 store-indexed-requires : tie.Need-store-indexed-requires
 store-indexed-requires c κs = search needs
 
--- src/write.rt:93:1
 returns : tie.Need-returns
 returns c = rw (c .before .before .s .given .1, c .load .ensures)
 
--- src/write.rt:93:1
 returns-2 : tie.Need-returns-2
 returns-2 c = rw (c .before .before .s2 .given .1, c .load-indexed .ensures)
 
--- src/write.rt:93:1
 returns-3 : tie.Need-returns-3
 returns-3 c = rw (c .before .before .s3 .given .1, c .store .ensures)
 
--- src/write.rt:93:1
 returns-4 : tie.Need-returns-4
 returns-4 c = rw (c .before .before .s4 .given .1, c .store-indexed .ensures)
 

@@ -2,39 +2,30 @@ use borrow.Author.Needs.{needs}
 use Rattle.insn.proofs.write.logical.Statement.{statement}
 use Rattle.insn.proofs.write.logical.Tie as tie
 
--- src/write.rt:52:30
 enum-known-l : tie.Need-enum-known-l
 enum-known-l c = search needs
 
--- src/write.rt:52:50
 logic-imm-requires : tie.Need-logic-imm-requires
 logic-imm-requires c κs = search needs
 
--- src/write.rt:53:29
 enum-known-l-2 : tie.Need-enum-known-l-2
 enum-known-l-2 c = search needs
 
--- src/write.rt:53:53
 logic-requires : tie.Need-logic-requires
 logic-requires c κs = search needs
 
--- src/write.rt:54:24
 enum-known-l-3 : tie.Need-enum-known-l-3
 enum-known-l-3 c = search needs
 
--- src/write.rt:54:44
 logic-one-requires : tie.Need-logic-one-requires
 logic-one-requires c κs = search needs
 
--- src/write.rt:48:1
 returns : tie.Need-returns
 returns c = rw (c .before .before .l .given .1, c .logic-imm .ensures)
 
--- src/write.rt:48:1
 returns-2 : tie.Need-returns-2
 returns-2 c = rw (c .before .before .l2 .given .1, c .logic .ensures)
 
--- src/write.rt:48:1
 returns-3 : tie.Need-returns-3
 returns-3 c = rw (c .before .before .l3 .given .1, c .logic-one .ensures)
 

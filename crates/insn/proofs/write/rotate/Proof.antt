@@ -2,51 +2,39 @@ use borrow.Author.Needs.{needs}
 use Rattle.insn.proofs.write.rotate.Statement.{statement}
 use Rattle.insn.proofs.write.rotate.Tie as tie
 
--- src/write.rt:72:13
 enum-known-r : tie.Need-enum-known-r
 enum-known-r c = search needs
 
--- src/write.rt:79:14
 rotate-imm-requires : tie.Need-rotate-imm-requires
 rotate-imm-requires c κs = search needs
 
--- src/write.rt:81:13
 enum-known-r-2 : tie.Need-enum-known-r-2
 enum-known-r-2 c = search needs
 
--- src/write.rt:87:14
 rotate-requires : tie.Need-rotate-requires
 rotate-requires c κs = search needs
 
--- src/write.rt:88:25
 enum-known-r-3 : tie.Need-enum-known-r-3
 enum-known-r-3 c = search needs
 
--- src/write.rt:88:49
 shift-requires : tie.Need-shift-requires
 shift-requires c κs = search needs
 
--- src/write.rt:89:25
 enum-known-r-4 : tie.Need-enum-known-r-4
 enum-known-r-4 c = search needs
 
--- src/write.rt:89:45
 srawi-requires : tie.Need-srawi-requires
 srawi-requires c κs = search needs
 
--- src/write.rt:67:1
 returns : tie.Need-returns
 returns c = rw (c .before .before .r .given .1, c .rotate-imm .ensures)
 
--- src/write.rt:67:1
 returns-2 : tie.Need-returns-2
 returns-2 c = rw (c .before .before .r2 .given .1, c .rotate .ensures)
 
--- src/write.rt:67:1
 returns-3 : tie.Need-returns-3
 returns-3 c = rw (c .before .before .r3 .given .1, c .shift .ensures)
 
--- src/write.rt:67:1
 returns-4 : tie.Need-returns-4
 returns-4 c = rw (c .before .before .r4 .given .1, c .srawi .ensures)
 

@@ -2,63 +2,48 @@ use borrow.Author.Needs.{needs}
 use Rattle.insn.proofs.write.system.Statement.{statement}
 use Rattle.insn.proofs.write.system.Tie as tie
 
--- src/write.rt:130:23
 enum-known-s : tie.Need-enum-known-s
 enum-known-s c = search needs
 
--- src/write.rt:130:40
 move-spr-requires : tie.Need-move-spr-requires
 move-spr-requires c κs = search needs
 
--- src/write.rt:131:24
 enum-known-s-2 : tie.Need-enum-known-s-2
 enum-known-s-2 c = search needs
 
--- src/write.rt:131:36
 move-reg-requires : tie.Need-move-reg-requires
 move-reg-requires c κs = search needs
 
--- src/write.rt:132:26
 enum-known-s-3 : tie.Need-enum-known-s-3
 enum-known-s-3 c = search needs
 
--- src/write.rt:132:33
 wrteei-requires : tie.Need-wrteei-requires
 wrteei-requires c κs = search needs
 
--- src/write.rt:133:24
 enum-told : tie.Need-enum-told
 enum-told c = search needs
 
--- src/write.rt:133:24
 rfi-requires : tie.Need-rfi-requires
 rfi-requires c κs = search needs
 
--- src/write.rt:134:25
 enum-told-2 : tie.Need-enum-told-2
 enum-told-2 c = search needs
 
--- src/write.rt:134:25
 sync-requires : tie.Need-sync-requires
 sync-requires c κs = search needs
 
--- src/write.rt:126:1
 returns : tie.Need-returns
 returns c = rw (c .before .before .s .given .1, c .move-spr .ensures)
 
--- src/write.rt:126:1
 returns-2 : tie.Need-returns-2
 returns-2 c = rw (c .before .before .s2 .given .1, c .move-reg .ensures)
 
--- src/write.rt:126:1
 returns-3 : tie.Need-returns-3
 returns-3 c = rw (c .before .before .s3 .given .1, c .wrteei .ensures)
 
--- src/write.rt:126:1
 returns-4 : tie.Need-returns-4
 returns-4 c = rw (c .before .enum-told .given .1, c .rfi .ensures)
 
--- src/write.rt:126:1
 returns-5 : tie.Need-returns-5
 returns-5 c = rw (c .before .enum-told2 .given .1, c .sync .ensures)
 

@@ -2,111 +2,84 @@ use borrow.Author.Needs.{needs}
 use Rattle.insn.proofs.write.write.Statement.{statement}
 use Rattle.insn.proofs.write.write.Tie as tie
 
--- src/write.rt:12:27
 enum-known-i : tie.Need-enum-known-i
 enum-known-i c = search needs
 
--- src/write.rt:12:33
 arithmetic-requires : tie.Need-arithmetic-requires
 arithmetic-requires c κs = search needs
 
--- src/write.rt:13:24
 enum-known-i-2 : tie.Need-enum-known-i-2
 enum-known-i-2 c = search needs
 
--- src/write.rt:13:30
 logical-requires : tie.Need-logical-requires
 logical-requires c κs = search needs
 
--- src/write.rt:14:24
 enum-known-i-3 : tie.Need-enum-known-i-3
 enum-known-i-3 c = search needs
 
--- src/write.rt:14:30
 compare-requires : tie.Need-compare-requires
 compare-requires c κs = search needs
 
--- src/write.rt:15:23
 enum-known-i-4 : tie.Need-enum-known-i-4
 enum-known-i-4 c = search needs
 
--- src/write.rt:15:29
 rotate-requires : tie.Need-rotate-requires
 rotate-requires c κs = search needs
 
--- src/write.rt:16:26
 enum-known-i-5 : tie.Need-enum-known-i-5
 enum-known-i-5 c = search needs
 
--- src/write.rt:16:32
 load-store-requires : tie.Need-load-store-requires
 load-store-requires c κs = search needs
 
--- src/write.rt:17:23
 enum-known-i-6 : tie.Need-enum-known-i-6
 enum-known-i-6 c = search needs
 
--- src/write.rt:17:29
 branch-requires : tie.Need-branch-requires
 branch-requires c κs = search needs
 
--- src/write.rt:18:23
 enum-known-i-7 : tie.Need-enum-known-i-7
 enum-known-i-7 c = search needs
 
--- src/write.rt:18:43
 trap-requires : tie.Need-trap-requires
 trap-requires c κs = search needs
 
--- src/write.rt:19:23
 enum-known-i-8 : tie.Need-enum-known-i-8
 enum-known-i-8 c = search needs
 
--- src/write.rt:19:29
 system-requires : tie.Need-system-requires
 system-requires c κs = search needs
 
--- src/write.rt:20:24
 enum-known-i-9 : tie.Need-enum-known-i-9
 enum-known-i-9 c = search needs
 
--- src/write.rt:20:46
 cache-requires : tie.Need-cache-requires
 cache-requires c κs = search needs
 
--- src/write.rt:8:1
 returns : tie.Need-returns
 returns c = rw (c .before .before .i .given .1, c .arithmetic .ensures)
 
--- src/write.rt:8:1
 returns-2 : tie.Need-returns-2
 returns-2 c = rw (c .before .before .i2 .given .1, c .logical .ensures)
 
--- src/write.rt:8:1
 returns-3 : tie.Need-returns-3
 returns-3 c = rw (c .before .before .i3 .given .1, c .compare .ensures)
 
--- src/write.rt:8:1
 returns-4 : tie.Need-returns-4
 returns-4 c = rw (c .before .before .i4 .given .1, c .rotate .ensures)
 
--- src/write.rt:8:1
 returns-5 : tie.Need-returns-5
 returns-5 c = rw (c .before .before .i5 .given .1, c .load-store .ensures)
 
--- src/write.rt:8:1
 returns-6 : tie.Need-returns-6
 returns-6 c = rw (c .before .before .i6 .given .1, c .branch .ensures)
 
--- src/write.rt:8:1
 returns-7 : tie.Need-returns-7
 returns-7 c = rw (c .before .before .i7 .given .1, c .trap .ensures)
 
--- src/write.rt:8:1
 returns-8 : tie.Need-returns-8
 returns-8 c = rw (c .before .before .i8 .given .1, c .system .ensures)
 
--- src/write.rt:8:1
 returns-9 : tie.Need-returns-9
 returns-9 c = rw (c .before .before .i9 .given .1, c .cache .ensures)
 
