@@ -97,10 +97,26 @@ void sized_in_the_run(int count) {
     use(array);
 }
 
+void taken_in_the_run(int count) { use(__builtin_alloca(count)); }
+
+int nested(int a) {
+    int inner(int b) { return a + b; }
+    use((void *)inner);
+    return inner(1);
+}
+
 void over_32_kib(void) {
     int array[10000];
     use(array);
 }
+
+// a field that is not aligned
+struct __attribute__((packed)) entry {
+    uint8_t kind;
+    uint32_t value;
+};
+
+uint32_t packed_field(const struct entry *from) { return from->value; }
 
 // the time base
 uint32_t time_base(void) { return __builtin_ppc_mftb(); }

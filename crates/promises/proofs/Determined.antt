@@ -16,6 +16,7 @@ use Rattle.capture.specs.Read.{readOf, partOf}
 use Rattle.capture.specs.Write.{writtenOf as captureWritten, outOf}
 use Rattle.capture.specs.declared.read.Read.{Read}
 use Rattle.capture.specs.declared.write.Written.{Written as CaptureWritten}
+use Rattle.abi.specs.Boundary.{legalOf, rewriteOf, runAnswer, runState, runLent, stepAnswer, stepState, stepLent, checkOf, writeAnswer, writeOut}
 
 -- a contract that is an equation has one answer
 one : {A : Type 0} {x y z : A} → x ≡ z → y ≡ z → x ≡ y
@@ -24,6 +25,9 @@ one p q = p ∙ sym q
 -- and one that is two has one answer and one thing left
 two : {A B : Type 0} {x y z : A} {u v w : B} → (x ≡ z) × (u ≡ w) → (y ≡ z) × (v ≡ w) → (x ≡ y) × (u ≡ v)
 two p q = (one (p .0) (q .0), one (p .1) (q .1))
+
+three : {A B C : Type 0} {x y z : A} {u v w : B} {l m n : C} → (x ≡ z) × ((u ≡ w) × (l ≡ n)) → (y ≡ z) × ((v ≡ w) × (m ≡ n)) → (x ≡ y) × ((u ≡ v) × (l ≡ m))
+three p q = (one (p .0) (q .0), two (p .1) (q .1))
 
 pub read-determined : (w : ℕ) (r q : Decoded) → r ≡ decodeOf w → q ≡ decodeOf w → r ≡ q
 read-determined w r q = one
@@ -43,7 +47,7 @@ module _ (s : State) (m : List ℕ) where
   pub lent-determined : (e : ℕ) (r q : Answer) (s′ t′ : State) (m′ n′ : List ℕ)
       → (r ≡ answerOf (stepOutcome s m e)) × ((s′ ≡ stepOutcome s m e .state) × (m′ ≡ stepMemory s m e)) → (q ≡ answerOf (stepOutcome s m e)) × ((t′ ≡ stepOutcome s m e .state) × (n′ ≡ stepMemory s m e))
       → (r ≡ q) × ((s′ ≡ t′) × (m′ ≡ n′))
-  lent-determined e r q s′ t′ m′ n′ a b = (one (a .0) (b .0), two (a .1) (b .1))
+  lent-determined e r q s′ t′ m′ n′ = three
 
   pub capture-write-determined : (out : List ℕ) (r q : CaptureWritten) (o′ p′ : List ℕ)
       → (r ≡ captureWritten s m out) × (o′ ≡ outOf s m out) → (q ≡ captureWritten s m out) × (p′ ≡ outOf s m out) → (r ≡ q) × (o′ ≡ p′)
@@ -54,3 +58,28 @@ capture-state-determined f r q = one
 
 pub capture-part-determined : (f r q : List ℕ) → r ≡ partOf f → q ≡ partOf f → r ≡ q
 capture-part-determined f r q = one
+
+-- the C functions, whose states are bytes
+pub c-legal-determined : (w r q : ℕ) → r ≡ legalOf (decodeOf w) → q ≡ legalOf (decodeOf w) → r ≡ q
+c-legal-determined w r q = one
+
+pub c-rewrite-determined : (w r q : ℕ) → r ≡ rewriteOf (decodeOf w) → q ≡ rewriteOf (decodeOf w) → r ≡ q
+c-rewrite-determined w r q = one
+
+pub c-check-determined : (f : List ℕ) (r q : ℕ) → r ≡ checkOf f → q ≡ checkOf f → r ≡ q
+c-check-determined f r q = one
+
+module _ (s m : List ℕ) where
+  pub c-run-determined : (ev : List ℕ) (budget r q : ℕ) (s′ t′ m′ n′ : List ℕ)
+      → (r ≡ runAnswer s m ev budget) × ((s′ ≡ runState s m ev budget) × (m′ ≡ runLent s m ev budget)) → (q ≡ runAnswer s m ev budget) × ((t′ ≡ runState s m ev budget) × (n′ ≡ runLent s m ev budget))
+      → (r ≡ q) × ((s′ ≡ t′) × (m′ ≡ n′))
+  c-run-determined ev budget r q s′ t′ m′ n′ = three
+
+  pub c-step-determined : (e r q : ℕ) (s′ t′ m′ n′ : List ℕ)
+      → (r ≡ stepAnswer s m e) × ((s′ ≡ stepState s m e) × (m′ ≡ stepLent s m e)) → (q ≡ stepAnswer s m e) × ((t′ ≡ stepState s m e) × (n′ ≡ stepLent s m e))
+      → (r ≡ q) × ((s′ ≡ t′) × (m′ ≡ n′))
+  c-step-determined e r q s′ t′ m′ n′ = three
+
+  pub c-write-determined : (out : List ℕ) (r q : ℕ) (o′ p′ : List ℕ)
+      → (r ≡ writeAnswer s m out) × (o′ ≡ writeOut s m out) → (q ≡ writeAnswer s m out) × (p′ ≡ writeOut s m out) → (r ≡ q) × (o′ ≡ p′)
+  c-write-determined out r q o′ p′ = two
