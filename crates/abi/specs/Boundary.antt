@@ -29,7 +29,7 @@ rewriteOf Decoded.Illegal = 0
 abbrev pub answerOf : Refusal → ℕ → ℕ
 answerOf r count = numberOf r * 2 ^ 32 + count
 
--- a state is 36 words; any other length is refused with 7
+-- a state is 36 words; any other length is refused with 7 (docs/DECISIONS.md D31)
 abbrev pub isState : List ℕ → Bool
 isState bytes = eqb (length bytes) 144
 

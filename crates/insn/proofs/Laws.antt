@@ -5,6 +5,7 @@ use mathlib.Core.List.{List, [], _∷_}
 use Prim.Native.Nat.{ℕ}
 use lib.Dec.{eqb}
 use borrow.Author.Tests.{eq-eqb, ne-eqb}
+use Rattle.word.proofs.Truth.{and-yes}
 use Rattle.insn.specs.Valid.{validOf}
 use Rattle.insn.specs.Write.{wordOf, writtenIf, writtenOf}
 use Rattle.insn.specs.Read.{Row, find, settleOf, settled}
@@ -25,10 +26,6 @@ refused-not false b = refl
 -- what is written is not refused exactly where it is valid
 pub valid-if : (i : Instr) {back : Written} {b : Bool} → back ≡ writtenOf i → eqb (back .refusal) 0 ≡ b → validOf i ≡ b
 valid-if i e h = refused-not (validOf i) (wordOf i) ∙ ap (λ (x : Written). eqb (x .refusal) 0) (sym e) ∙ h
-
-and-yes : (a : Bool) {b : Bool} → b ≡ true → (a && b) ≡ a
-and-yes true e = e
-and-yes false e = refl
 
 -- what is written as the word need only be valid
 pub whole : {w : ℕ} (i : Instr) {r : Decoded} → r ≡ cond (validOf i) (Decoded.Insn i) Decoded.Illegal → wordOf i ≡ w → r ≡ settleOf w i

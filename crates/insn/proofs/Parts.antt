@@ -8,7 +8,8 @@ use lib.Dec.{eqb, lit<}
 use lib.Pow.{pow-pos, mod-pow-add}
 use Rattle.word.proofs.ByBits.{digit-of}
 use Rattle.word.specs.Bits.{digit, bitAt, bitsAt, fieldAt}
-use Rattle.insn.specs.Fields.{sprOf, fieldsOf, IsFields, wordD, wordX, wordXO, wordXFX, wordE, wordM, wordB, wordI}
+use Rattle.insn.specs.Fields.{sprOf, fieldsOf, wordD, wordX, wordXO, wordXFX, wordE, wordM, wordB, wordI}
+use Rattle.insn.specs.Read.{IsFields}
 use Rattle.insn.specs.declared.fields.Fields.{Fields}
 
 digit-lt : (b : Bool) → digit b < 2

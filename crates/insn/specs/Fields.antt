@@ -1,6 +1,5 @@
 -- The parts of a word by bit number, and words made of parts (Power ISA 2.07, instruction formats).
-use Prim.Native.Nat.{ℕ, _+_, _^_, _<_}
-use mathlib.Core.Path.{_≡_}
+use Prim.Native.Nat.{ℕ, _+_}
 use mathlib.Core.Bool.{Bool}
 use Rattle.word.specs.Bits.{digit, bitAt, bitsAt, fieldAt}
 use Rattle.insn.specs.declared.fields.Fields.{Fields}
@@ -32,10 +31,6 @@ fieldsOf w =
       aa = bitAt w 30;
       rc = bitAt w 31;
     }
-
--- these are the parts of a word, and it is one
-abbrev pub IsFields : Fields → Type 0
-IsFields f = (f .word < 2 ^ 32) × (f ≡ fieldsOf (f .word))
 
 -- what no part names is reserved, and zero
 abbrev pub wordD : ℕ → ℕ → ℕ → ℕ → ℕ

@@ -3,11 +3,10 @@
 ghost use mathlib.Core.Path.{_≡_};
 ghost use mathlib.Core.Bool.{cond};
 ghost use Rattle.insn.specs.Codes.{arithImmCode, arithCode, multiplyCode, logicImmCode, logicCode, rotateCode, shiftCode, loadCode, storeCode, branchCode};
-ghost use Rattle.insn.specs.Fields.{IsFields};
 ghost use Rattle.insn.specs.Valid.{validOf};
 ghost use Rattle.insn.specs.Write.{writtenOf};
 ghost use Rattle.insn.specs.declared.instr.Decoded.{Decoded};
-ghost use Rattle.insn.specs.Read.{settleOf, settled, decodeOf, primary, loadStore, opcode4, opcode19, arithmetic, logical, storage, system, arithImmAt, arithAt, arithOneAt, multiplyAt, logicImmAt, logicAt, logicOneAt, compareImmAt, compareAt, rotateImmAt, rotateAt, shiftAt, srawiAt, loadAt, loadIndexedAt, storeAt, storeIndexedAt, branchAt, branchIfAt, branchToAt, trapAt, moveSprAt, moveRegAt, wrteeiAt, rfiAt, syncAt, cacheAt};
+ghost use Rattle.insn.specs.Read.{IsFields, settleOf, settled, decodeOf, primary, loadStore, opcode4, opcode19, arithmetic, logical, storage, system, arithImmAt, arithAt, arithOneAt, multiplyAt, logicImmAt, logicAt, logicOneAt, compareImmAt, compareAt, rotateImmAt, rotateAt, shiftAt, srawiAt, loadAt, loadIndexedAt, storeAt, storeIndexedAt, branchAt, branchIfAt, branchToAt, trapAt, moveSprAt, moveRegAt, wrteeiAt, rfiAt, syncAt, cacheAt};
 use crate::fields::Fields;
 use crate::fields::fields_of;
 use crate::forms;
