@@ -9,7 +9,6 @@ use lib.Pow.{pow-pos, mod-pow-add}
 use Rattle.word.proofs.ByBits.{digit-of}
 use Rattle.word.specs.Bits.{digit, bitAt, bitsAt, fieldAt}
 use Rattle.insn.specs.Fields.{sprOf, fieldsOf, wordD, wordX, wordXO, wordXFX, wordE, wordM, wordB, wordI}
-use Rattle.insn.specs.Read.{IsFields}
 use Rattle.insn.specs.declared.fields.Fields.{Fields}
 
 digit-lt : (b : Bool) → digit b < 2
@@ -168,10 +167,6 @@ i-parts {li} aa lk hli =
     let hlk = digit-lt lk in
     record { op-is = omega arith; li-is = omega arith; aa-is = flag aa (wordI li aa lk) 30 (omega arith); rc-is = flag lk (wordI li aa lk) 31 (omega arith) }
 
-pub fields-are : {w : ℕ} {f : Fields} → w < 2 ^ 32 → f ≡ fieldsOf w → IsFields f
-unfolding fieldsOf
-fields-are h e = subst IsFields (sym e) (h, refl)
-
 -- a word is made of its own parts, in each layout that names every bit: from the left, a part and what stands to the right of it
 part : (w n k : ℕ) → w / 2 ^ k % 2 ^ n % 2 ^ n * 2 ^ k + w % 2 ^ k ≡ w % 2 ^ (n + k)
 part w n k = ap (λ (x : ℕ). x * 2 ^ k + w % 2 ^ k) (mod-eq-of-lt (mod-lt (w / 2 ^ k) (pow-pos n))) ∙ sym (mod-pow-add w n k)
@@ -191,52 +186,26 @@ then s p x e h = add-assoc s p x ∙ ap (λ (n : ℕ). s + n) e ∙ h
 last : {s w : ℕ} → s + w % 1 ≡ w → s ≡ w
 last h = omega (arith, h)
 
-pub d-whole : {op : ℕ} (f : Fields) → IsFields f × (f .op ≡ op) → wordD op (f .rt) (f .ra) (f .imm) ≡ f .word
+pub d-whole : {op : ℕ} (w : ℕ) → w < 2 ^ 32 → fieldsOf w .op ≡ op → wordD op (fieldsOf w .rt) (fieldsOf w .ra) (fieldsOf w .imm) ≡ w
 unfolding fieldsOf
-d-whole {op} f h =
-    let w = f .word in
-    subst (λ (g : Fields). g .op ≡ op → wordD op (g .rt) (g .ra) (g .imm) ≡ w) (sym (h .0 .1))
-    (λ o. last (then _ _ _ (part w 16 0) (then _ _ _ (part w 5 16) (then _ _ _ (part w 5 21) (first (h .0 .0) o)))))
-    (h .1)
+d-whole w h o = last (then _ _ _ (part w 16 0) (then _ _ _ (part w 5 16) (then _ _ _ (part w 5 21) (first h o))))
 
-pub x-whole : {op x : ℕ} (f : Fields) → IsFields f × (f .op ≡ op) × (f .x ≡ x) → wordX op (f .rt) (f .ra) (f .rb) x (f .rc) ≡ f .word
+pub x-whole : {op x : ℕ} (w : ℕ) → w < 2 ^ 32 → (fieldsOf w .op ≡ op) × (fieldsOf w .x ≡ x) → wordX op (fieldsOf w .rt) (fieldsOf w .ra) (fieldsOf w .rb) x (fieldsOf w .rc) ≡ w
 unfolding fieldsOf
-x-whole {op} {x} f h =
-    let w = f .word in
-    subst (λ (g : Fields). g .op ≡ op → g .x ≡ x → wordX op (g .rt) (g .ra) (g .rb) x (g .rc) ≡ w) (sym (h .0 .1))
-    (λ o c. last (then _ _ _ (bit-part w 31) (then _ _ _ (code-part w 10 1 c) (then _ _ _ (part w 5 11) (then _ _ _ (part w 5 16) (then _ _ _ (part w 5 21) (first (h .0 .0) o)))))))
-    (h .1)
-    (h .2)
+x-whole w h c = last (then _ _ _ (bit-part w 31) (then _ _ _ (code-part w 10 1 (c .1)) (then _ _ _ (part w 5 11) (then _ _ _ (part w 5 16) (then _ _ _ (part w 5 21) (first h (c .0)))))))
 
-pub xo-whole : {xo : ℕ} (f : Fields) → IsFields f × (f .op ≡ 31) × (f .xo ≡ xo) → wordXO (f .rt) (f .ra) (f .rb) (f .oe) xo (f .rc) ≡ f .word
+pub xo-whole : {xo : ℕ} (w : ℕ) → w < 2 ^ 32 → (fieldsOf w .op ≡ 31) × (fieldsOf w .xo ≡ xo) → wordXO (fieldsOf w .rt) (fieldsOf w .ra) (fieldsOf w .rb) (fieldsOf w .oe) xo (fieldsOf w .rc) ≡ w
 unfolding fieldsOf
-xo-whole {xo} f h =
-    let w = f .word in
-    subst (λ (g : Fields). g .op ≡ 31 → g .xo ≡ xo → wordXO (g .rt) (g .ra) (g .rb) (g .oe) xo (g .rc) ≡ w) (sym (h .0 .1))
-    (λ o c. last (then _ _ _ (bit-part w 31) (then _ _ _ (code-part w 9 1 c) (then _ _ _ (bit-part w 21) (then _ _ _ (part w 5 11) (then _ _ _ (part w 5 16) (then _ _ _ (part w 5 21) (first (h .0 .0) o))))))))
-    (h .1)
-    (h .2)
+xo-whole w h c = last (then _ _ _ (bit-part w 31) (then _ _ _ (code-part w 9 1 (c .1)) (then _ _ _ (bit-part w 21) (then _ _ _ (part w 5 11) (then _ _ _ (part w 5 16) (then _ _ _ (part w 5 21) (first h (c .0))))))))
 
-pub m-whole : {op : ℕ} (f : Fields) → IsFields f × (f .op ≡ op) → wordM op (f .rt) (f .ra) (f .rb) (f .mb) (f .me) (f .rc) ≡ f .word
+pub m-whole : {op : ℕ} (w : ℕ) → w < 2 ^ 32 → fieldsOf w .op ≡ op → wordM op (fieldsOf w .rt) (fieldsOf w .ra) (fieldsOf w .rb) (fieldsOf w .mb) (fieldsOf w .me) (fieldsOf w .rc) ≡ w
 unfolding fieldsOf
-m-whole {op} f h =
-    let w = f .word in
-    subst (λ (g : Fields). g .op ≡ op → wordM op (g .rt) (g .ra) (g .rb) (g .mb) (g .me) (g .rc) ≡ w) (sym (h .0 .1))
-    (λ o. last (then _ _ _ (bit-part w 31) (then _ _ _ (part w 5 1) (then _ _ _ (part w 5 6) (then _ _ _ (part w 5 11) (then _ _ _ (part w 5 16) (then _ _ _ (part w 5 21) (first (h .0 .0) o))))))))
-    (h .1)
+m-whole w h o = last (then _ _ _ (bit-part w 31) (then _ _ _ (part w 5 1) (then _ _ _ (part w 5 6) (then _ _ _ (part w 5 11) (then _ _ _ (part w 5 16) (then _ _ _ (part w 5 21) (first h o)))))))
 
-pub b-whole : (f : Fields) → IsFields f × (f .op ≡ 16) → wordB (f .rt) (f .ra) (f .bd) (f .aa) (f .rc) ≡ f .word
+pub b-whole : (w : ℕ) → w < 2 ^ 32 → fieldsOf w .op ≡ 16 → wordB (fieldsOf w .rt) (fieldsOf w .ra) (fieldsOf w .bd) (fieldsOf w .aa) (fieldsOf w .rc) ≡ w
 unfolding fieldsOf
-b-whole f h =
-    let w = f .word in
-    subst (λ (g : Fields). g .op ≡ 16 → wordB (g .rt) (g .ra) (g .bd) (g .aa) (g .rc) ≡ w) (sym (h .0 .1))
-    (λ o. last (then _ _ _ (bit-part w 31) (then _ _ _ (bit-part w 30) (then _ _ _ (part w 14 2) (then _ _ _ (part w 5 16) (then _ _ _ (part w 5 21) (first (h .0 .0) o)))))))
-    (h .1)
+b-whole w h o = last (then _ _ _ (bit-part w 31) (then _ _ _ (bit-part w 30) (then _ _ _ (part w 14 2) (then _ _ _ (part w 5 16) (then _ _ _ (part w 5 21) (first h o))))))
 
-pub i-whole : (f : Fields) → IsFields f × (f .op ≡ 18) → wordI (f .li) (f .aa) (f .rc) ≡ f .word
+pub i-whole : (w : ℕ) → w < 2 ^ 32 → fieldsOf w .op ≡ 18 → wordI (fieldsOf w .li) (fieldsOf w .aa) (fieldsOf w .rc) ≡ w
 unfolding fieldsOf
-i-whole f h =
-    let w = f .word in
-    subst (λ (g : Fields). g .op ≡ 18 → wordI (g .li) (g .aa) (g .rc) ≡ w) (sym (h .0 .1))
-    (λ o. last (then _ _ _ (bit-part w 31) (then _ _ _ (bit-part w 30) (then _ _ _ (part w 24 2) (first (h .0 .0) o)))))
-    (h .1)
+i-whole w h o = last (then _ _ _ (bit-part w 31) (then _ _ _ (bit-part w 30) (then _ _ _ (part w 24 2) (first h o))))

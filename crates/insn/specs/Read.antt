@@ -1,7 +1,6 @@
 -- What a word reads as: the instruction that its opcodes and parts suggest, if that is valid and is written as this very word.
 -- So only `validOf` and `wordOf` have to be believed: a slip in a table below would refute `written-read`.
-use Prim.Native.Nat.{ℕ, _^_, _<_}
-use mathlib.Core.Path.{_≡_}
+use Prim.Native.Nat.{ℕ}
 use mathlib.Core.Bool.{Bool, true, false, cond, _&&_}
 use mathlib.Core.List.{List, [], _∷_, _++_}
 use lib.Dec.{eqb}
@@ -47,10 +46,6 @@ use Rattle.insn.specs.declared.instr.MoveOp.the-variants.{Mfcr, Mtcr0, M
 use Rattle.insn.specs.declared.instr.CacheOp.the-variants.{Dcbf, Dcbi, Dcbt, Dcbz}
 use Rattle.insn.specs.declared.instr.Sign.the-variants.{Signed, Unsigned}
 use Rattle.word.specs.declared.width.Width.the-variants.{Byte, Half, Word}
-
--- what the reader's own functions are handed: a word and its parts
-abbrev pub IsFields : Fields → Type 0
-IsFields f = (f .word < 2 ^ 32) × (f ≡ fieldsOf (f .word))
 
 -- each form made of a word's parts
 abbrev pub arithImmAt : ArithImmOp → Fields → Instr

@@ -1,187 +1,204 @@
 // A word as its instruction, or illegal: its opcodes suggest a form and a mnemonic, its parts the operands. What they make is
 // read if it is valid and written as the same word. A form that names every bit always is, so there no words are compared.
+// Each function takes the word apart for itself, so that only the parts it names are worked out.
 ghost use mathlib.Core.Path.{_≡_};
 ghost use mathlib.Core.Bool.{cond};
 ghost use Rattle.insn.specs.Codes.{arithImmCode, arithCode, multiplyCode, logicImmCode, logicCode, rotateCode, shiftCode, loadCode, storeCode, branchCode};
+ghost use Rattle.insn.specs.Fields.{fieldsOf};
 ghost use Rattle.insn.specs.Valid.{validOf};
 ghost use Rattle.insn.specs.Write.{writtenOf};
 ghost use Rattle.insn.specs.declared.instr.Decoded.{Decoded};
-ghost use Rattle.insn.specs.Read.{IsFields, settleOf, settled, decodeOf, primary, loadStore, opcode4, opcode19, arithmetic, logical, storage, system, arithImmAt, arithAt, arithOneAt, multiplyAt, logicImmAt, logicAt, logicOneAt, compareImmAt, compareAt, rotateImmAt, rotateAt, shiftAt, srawiAt, loadAt, loadIndexedAt, storeAt, storeIndexedAt, branchAt, branchIfAt, branchToAt, trapAt, moveSprAt, moveRegAt, wrteeiAt, rfiAt, syncAt, cacheAt};
-use crate::fields::Fields;
+ghost use Rattle.insn.specs.Read.{settleOf, settled, decodeOf, loadStore, opcode4, opcode19, arithmetic, logical, storage, system, arithImmAt, arithAt, arithOneAt, multiplyAt, logicImmAt, logicAt, logicOneAt, compareImmAt, compareAt, rotateImmAt, rotateAt, shiftAt, srawiAt, loadAt, loadIndexedAt, storeAt, storeIndexedAt, branchAt, branchIfAt, branchToAt, trapAt, moveSprAt, moveRegAt, wrteeiAt, rfiAt, syncAt, cacheAt};
 use crate::fields::fields_of;
 use crate::forms;
 use crate::instr::*;
 use word::width::Width;
 
-pub fn read(word: u32) -> Decoded
-    ensures { λ r. ⌜ r ≡ decodeOf word ⌝ }
+// The primary opcode.
+fn opcode(word: u32) -> u8
+    ensures { λ r. ⌜ r ≡ fieldsOf word .op ⌝ }
 {
-    read_primary(fields_of(word))
+    let f = fields_of(word);
+    f.op
+}
+
+// The extended opcode of an X form.
+fn x_opcode(word: u32) -> u16
+    ensures { λ r. ⌜ r ≡ fieldsOf word .x ⌝ }
+{
+    let f = fields_of(word);
+    f.x
+}
+
+// The extended opcode of an XO form.
+fn xo_opcode(word: u32) -> u16
+    ensures { λ r. ⌜ r ≡ fieldsOf word .xo ⌝ }
+{
+    let f = fields_of(word);
+    f.xo
 }
 
 // By the primary opcode.
-fn read_primary(f: Fields) -> Decoded
-    requires { ⌜ IsFields f ⌝ }
-    ensures { λ r. ⌜ r ≡ settled (f .word) (primary (f .op) f) ⌝ }
+pub fn read(word: u32) -> Decoded
+    ensures { λ r. ⌜ r ≡ decodeOf word ⌝ }
 {
-    let op = f.op;
+    let op = opcode(word);
     match op {
-        14 => arith_imm(f, ArithImmOp::Addi),
-        15 => arith_imm(f, ArithImmOp::Addis),
-        12 => arith_imm(f, ArithImmOp::Addic),
-        13 => arith_imm(f, ArithImmOp::AddicDot),
-        8 => arith_imm(f, ArithImmOp::Subfic),
-        28 => logic_imm(f, LogicImmOp::AndiDot),
-        29 => logic_imm(f, LogicImmOp::AndisDot),
-        24 => logic_imm(f, LogicImmOp::Ori),
-        25 => logic_imm(f, LogicImmOp::Oris),
-        26 => logic_imm(f, LogicImmOp::Xori),
-        27 => logic_imm(f, LogicImmOp::Xoris),
-        11 => compare_imm(f, Sign::Signed),
-        10 => compare_imm(f, Sign::Unsigned),
-        20 => rotate_imm(f, RotateOp::Rlwimi),
-        21 => rotate_imm(f, RotateOp::Rlwinm),
-        23 => rotate(f),
-        18 => branch(f),
-        16 => branch_if(f),
-        4 => read_4(f),
-        19 => read_19(f),
-        31 => read_31(f),
-        _ => read_load_store(f),
+        14 => arith_imm(word, ArithImmOp::Addi),
+        15 => arith_imm(word, ArithImmOp::Addis),
+        12 => arith_imm(word, ArithImmOp::Addic),
+        13 => arith_imm(word, ArithImmOp::AddicDot),
+        8 => arith_imm(word, ArithImmOp::Subfic),
+        28 => logic_imm(word, LogicImmOp::AndiDot),
+        29 => logic_imm(word, LogicImmOp::AndisDot),
+        24 => logic_imm(word, LogicImmOp::Ori),
+        25 => logic_imm(word, LogicImmOp::Oris),
+        26 => logic_imm(word, LogicImmOp::Xori),
+        27 => logic_imm(word, LogicImmOp::Xoris),
+        11 => compare_imm(word, Sign::Signed),
+        10 => compare_imm(word, Sign::Unsigned),
+        20 => rotate_imm(word, RotateOp::Rlwimi),
+        21 => rotate_imm(word, RotateOp::Rlwinm),
+        23 => rotate(word),
+        18 => branch(word),
+        16 => branch_if(word),
+        4 => read_4(word),
+        19 => read_19(word),
+        31 => read_31(word),
+        _ => read_load_store(word),
     }
 }
 
-fn read_load_store(f: Fields) -> Decoded
-    requires { ⌜ IsFields f ⌝ }
-    ensures { λ r. ⌜ r ≡ settled (f .word) (loadStore (f .op) f) ⌝ }
+fn read_load_store(word: u32) -> Decoded
+    ensures { λ r. ⌜ r ≡ settled word (loadStore (fieldsOf word .op) (fieldsOf word)) ⌝ }
 {
-    let op = f.op;
+    let op = opcode(word);
     match op {
-        34 => load(f, Width::Byte, false),
-        40 => load(f, Width::Half, false),
-        32 => load(f, Width::Word, false),
-        35 => load(f, Width::Byte, true),
-        41 => load(f, Width::Half, true),
-        33 => load(f, Width::Word, true),
-        38 => store(f, Width::Byte, false),
-        44 => store(f, Width::Half, false),
-        36 => store(f, Width::Word, false),
-        39 => store(f, Width::Byte, true),
-        45 => store(f, Width::Half, true),
-        37 => store(f, Width::Word, true),
+        34 => load(word, Width::Byte, false),
+        40 => load(word, Width::Half, false),
+        32 => load(word, Width::Word, false),
+        35 => load(word, Width::Byte, true),
+        41 => load(word, Width::Half, true),
+        33 => load(word, Width::Word, true),
+        38 => store(word, Width::Byte, false),
+        44 => store(word, Width::Half, false),
+        36 => store(word, Width::Word, false),
+        39 => store(word, Width::Byte, true),
+        45 => store(word, Width::Half, true),
+        37 => store(word, Width::Word, true),
         _ => Decoded::Illegal,
     }
 }
 
 // By the extended opcode under primary opcode 4.
-fn read_4(f: Fields) -> Decoded
-    requires { ⌜ IsFields f × (f .op ≡ 4) ⌝ }
-    ensures { λ r. ⌜ r ≡ settled (f .word) (opcode4 (f .x) f) ⌝ }
+fn read_4(word: u32) -> Decoded
+    requires { ⌜ fieldsOf word .op ≡ 4 ⌝ }
+    ensures { λ r. ⌜ r ≡ settled word (opcode4 (fieldsOf word .x) (fieldsOf word)) ⌝ }
 {
-    let x = f.x;
+    let x = x_opcode(word);
     match x {
-        424 => multiply(f, Sign::Signed),
-        392 => multiply(f, Sign::Unsigned),
+        424 => multiply(word, Sign::Signed),
+        392 => multiply(word, Sign::Unsigned),
         _ => Decoded::Illegal,
     }
 }
 
-fn read_19(f: Fields) -> Decoded
-    requires { ⌜ IsFields f × (f .op ≡ 19) ⌝ }
-    ensures { λ r. ⌜ r ≡ settled (f .word) (opcode19 (f .x) f) ⌝ }
+fn read_19(word: u32) -> Decoded
+    requires { ⌜ fieldsOf word .op ≡ 19 ⌝ }
+    ensures { λ r. ⌜ r ≡ settled word (opcode19 (fieldsOf word .x) (fieldsOf word)) ⌝ }
 {
-    let x = f.x;
+    let x = x_opcode(word);
     match x {
-        16 => branch_to(f, BranchOp::Bclr),
-        528 => branch_to(f, BranchOp::Bcctr),
-        50 => rfi(f),
+        16 => branch_to(word, BranchOp::Bclr),
+        528 => branch_to(word, BranchOp::Bcctr),
+        50 => rfi(word),
         _ => Decoded::Illegal,
     }
 }
 
 // The XO forms; what is none of them is an X form.
-fn read_31(f: Fields) -> Decoded
-    requires { ⌜ IsFields f × (f .op ≡ 31) ⌝ }
-    ensures { λ r. ⌜ r ≡ settled (f .word) (arithmetic (f .x) (f .xo) f) ⌝ }
+fn read_31(word: u32) -> Decoded
+    requires { ⌜ fieldsOf word .op ≡ 31 ⌝ }
+    ensures { λ r. ⌜ r ≡ settled word (arithmetic (fieldsOf word .x) (fieldsOf word .xo) (fieldsOf word)) ⌝ }
 {
-    let xo = f.xo;
+    let xo = xo_opcode(word);
     match xo {
-        266 => arith(f, ArithOp::Add),
-        10 => arith(f, ArithOp::Addc),
-        138 => arith(f, ArithOp::Adde),
-        40 => arith(f, ArithOp::Subf),
-        8 => arith(f, ArithOp::Subfc),
-        136 => arith(f, ArithOp::Subfe),
-        234 => arith_one(f, ArithOneOp::Addme),
-        202 => arith_one(f, ArithOneOp::Addze),
-        232 => arith_one(f, ArithOneOp::Subfme),
-        200 => arith_one(f, ArithOneOp::Subfze),
-        104 => arith_one(f, ArithOneOp::Neg),
-        _ => read_logical(f),
+        266 => arith(word, ArithOp::Add),
+        10 => arith(word, ArithOp::Addc),
+        138 => arith(word, ArithOp::Adde),
+        40 => arith(word, ArithOp::Subf),
+        8 => arith(word, ArithOp::Subfc),
+        136 => arith(word, ArithOp::Subfe),
+        234 => arith_one(word, ArithOneOp::Addme),
+        202 => arith_one(word, ArithOneOp::Addze),
+        232 => arith_one(word, ArithOneOp::Subfme),
+        200 => arith_one(word, ArithOneOp::Subfze),
+        104 => arith_one(word, ArithOneOp::Neg),
+        _ => read_logical(word),
     }
 }
 
-fn read_logical(f: Fields) -> Decoded
-    requires { ⌜ IsFields f × (f .op ≡ 31) ⌝ }
-    ensures { λ r. ⌜ r ≡ settled (f .word) (logical (f .x) f) ⌝ }
+fn read_logical(word: u32) -> Decoded
+    requires { ⌜ fieldsOf word .op ≡ 31 ⌝ }
+    ensures { λ r. ⌜ r ≡ settled word (logical (fieldsOf word .x) (fieldsOf word)) ⌝ }
 {
-    let x = f.x;
+    let x = x_opcode(word);
     match x {
-        28 => logic(f, LogicOp::And),
-        60 => logic(f, LogicOp::Andc),
-        284 => logic(f, LogicOp::Eqv),
-        476 => logic(f, LogicOp::Nand),
-        124 => logic(f, LogicOp::Nor),
-        444 => logic(f, LogicOp::Or),
-        412 => logic(f, LogicOp::Orc),
-        316 => logic(f, LogicOp::Xor),
-        954 => logic_one(f, LogicOneOp::Extsb),
-        922 => logic_one(f, LogicOneOp::Extsh),
-        26 => logic_one(f, LogicOneOp::Cntlzw),
-        24 => shift(f, ShiftOp::Slw),
-        536 => shift(f, ShiftOp::Srw),
-        792 => shift(f, ShiftOp::Sraw),
-        0 => compare(f, Sign::Signed),
-        32 => compare(f, Sign::Unsigned),
-        824 => srawi(f),
-        4 => trap(f),
-        _ => read_storage(f),
+        28 => logic(word, LogicOp::And),
+        60 => logic(word, LogicOp::Andc),
+        284 => logic(word, LogicOp::Eqv),
+        476 => logic(word, LogicOp::Nand),
+        124 => logic(word, LogicOp::Nor),
+        444 => logic(word, LogicOp::Or),
+        412 => logic(word, LogicOp::Orc),
+        316 => logic(word, LogicOp::Xor),
+        954 => logic_one(word, LogicOneOp::Extsb),
+        922 => logic_one(word, LogicOneOp::Extsh),
+        26 => logic_one(word, LogicOneOp::Cntlzw),
+        24 => shift(word, ShiftOp::Slw),
+        536 => shift(word, ShiftOp::Srw),
+        792 => shift(word, ShiftOp::Sraw),
+        0 => compare(word, Sign::Signed),
+        32 => compare(word, Sign::Unsigned),
+        824 => srawi(word),
+        4 => trap(word),
+        _ => read_storage(word),
     }
 }
 
-fn read_storage(f: Fields) -> Decoded
-    ensures { λ r. ⌜ r ≡ settled (f .word) (storage (f .x) f) ⌝ }
+fn read_storage(word: u32) -> Decoded
+    ensures { λ r. ⌜ r ≡ settled word (storage (fieldsOf word .x) (fieldsOf word)) ⌝ }
 {
-    let x = f.x;
+    let x = x_opcode(word);
     match x {
-        87 => load_indexed(f, Width::Byte),
-        279 => load_indexed(f, Width::Half),
-        23 => load_indexed(f, Width::Word),
-        215 => store_indexed(f, Width::Byte),
-        407 => store_indexed(f, Width::Half),
-        151 => store_indexed(f, Width::Word),
-        86 => cache(f, CacheOp::Dcbf),
-        470 => cache(f, CacheOp::Dcbi),
-        278 => cache(f, CacheOp::Dcbt),
-        1014 => cache(f, CacheOp::Dcbz),
-        _ => read_system(f),
+        87 => load_indexed(word, Width::Byte),
+        279 => load_indexed(word, Width::Half),
+        23 => load_indexed(word, Width::Word),
+        215 => store_indexed(word, Width::Byte),
+        407 => store_indexed(word, Width::Half),
+        151 => store_indexed(word, Width::Word),
+        86 => cache(word, CacheOp::Dcbf),
+        470 => cache(word, CacheOp::Dcbi),
+        278 => cache(word, CacheOp::Dcbt),
+        1014 => cache(word, CacheOp::Dcbz),
+        _ => read_system(word),
     }
 }
 
-fn read_system(f: Fields) -> Decoded
-    ensures { λ r. ⌜ r ≡ settled (f .word) (system (f .x) f) ⌝ }
+fn read_system(word: u32) -> Decoded
+    ensures { λ r. ⌜ r ≡ settled word (system (fieldsOf word .x) (fieldsOf word)) ⌝ }
 {
-    let x = f.x;
+    let x = x_opcode(word);
     match x {
-        339 => move_spr(f, SprOp::Mfspr),
-        467 => move_spr(f, SprOp::Mtspr),
-        19 => move_reg(f, MoveOp::Mfcr),
-        144 => move_reg(f, MoveOp::Mtcr0),
-        83 => move_reg(f, MoveOp::Mfmsr),
-        146 => move_reg(f, MoveOp::Mtmsr),
-        131 => move_reg(f, MoveOp::Wrtee),
-        163 => wrteei(f),
-        598 => sync(f),
+        339 => move_spr(word, SprOp::Mfspr),
+        467 => move_spr(word, SprOp::Mtspr),
+        19 => move_reg(word, MoveOp::Mfcr),
+        144 => move_reg(word, MoveOp::Mtcr0),
+        83 => move_reg(word, MoveOp::Mfmsr),
+        146 => move_reg(word, MoveOp::Mtmsr),
+        131 => move_reg(word, MoveOp::Wrtee),
+        163 => wrteei(word),
+        598 => sync(word),
         _ => Decoded::Illegal,
     }
 }
@@ -210,10 +227,11 @@ fn settle_whole(i: Instr, back: Written) -> Decoded
     }
 }
 
-fn arith_imm(f: Fields, op: ArithImmOp) -> Decoded
-    requires { ⌜ IsFields f × (f .op ≡ arithImmCode op) ⌝ }
-    ensures { λ r. ⌜ r ≡ settleOf (f .word) (arithImmAt op f) ⌝ }
+fn arith_imm(word: u32, op: ArithImmOp) -> Decoded
+    requires { ⌜ fieldsOf word .op ≡ arithImmCode op ⌝ }
+    ensures { λ r. ⌜ r ≡ settleOf word (arithImmAt op (fieldsOf word)) ⌝ }
 {
+    let f = fields_of(word);
     let i = Instr::Arithmetic(Arithmetic::Immediate {
         op,
         rt: f.rt,
@@ -223,10 +241,11 @@ fn arith_imm(f: Fields, op: ArithImmOp) -> Decoded
     settle_whole(i, forms::arith_imm(op, f.rt, f.ra, f.imm))
 }
 
-fn arith(f: Fields, op: ArithOp) -> Decoded
-    requires { ⌜ IsFields f × (f .op ≡ 31) × (f .xo ≡ arithCode op) ⌝ }
-    ensures { λ r. ⌜ r ≡ settleOf (f .word) (arithAt op f) ⌝ }
+fn arith(word: u32, op: ArithOp) -> Decoded
+    requires { ⌜ (fieldsOf word .op ≡ 31) × (fieldsOf word .xo ≡ arithCode op) ⌝ }
+    ensures { λ r. ⌜ r ≡ settleOf word (arithAt op (fieldsOf word)) ⌝ }
 {
+    let f = fields_of(word);
     let i = Instr::Arithmetic(Arithmetic::Register {
         op,
         rt: f.rt,
@@ -238,9 +257,10 @@ fn arith(f: Fields, op: ArithOp) -> Decoded
     settle_whole(i, forms::arith(op, f.rt, f.ra, f.rb, f.oe, f.rc))
 }
 
-fn arith_one(f: Fields, op: ArithOneOp) -> Decoded
-    ensures { λ r. ⌜ r ≡ settleOf (f .word) (arithOneAt op f) ⌝ }
+fn arith_one(word: u32, op: ArithOneOp) -> Decoded
+    ensures { λ r. ⌜ r ≡ settleOf word (arithOneAt op (fieldsOf word)) ⌝ }
 {
+    let f = fields_of(word);
     let i = Instr::Arithmetic(Arithmetic::One {
         op,
         rt: f.rt,
@@ -248,13 +268,14 @@ fn arith_one(f: Fields, op: ArithOneOp) -> Decoded
         oe: f.oe,
         rc: f.rc,
     });
-    settle(f.word, i, forms::arith_one(op, f.rt, f.ra, f.oe, f.rc))
+    settle(word, i, forms::arith_one(op, f.rt, f.ra, f.oe, f.rc))
 }
 
-fn multiply(f: Fields, sign: Sign) -> Decoded
-    requires { ⌜ IsFields f × (f .op ≡ 4) × (f .x ≡ multiplyCode sign) ⌝ }
-    ensures { λ r. ⌜ r ≡ settleOf (f .word) (multiplyAt sign f) ⌝ }
+fn multiply(word: u32, sign: Sign) -> Decoded
+    requires { ⌜ (fieldsOf word .op ≡ 4) × (fieldsOf word .x ≡ multiplyCode sign) ⌝ }
+    ensures { λ r. ⌜ r ≡ settleOf word (multiplyAt sign (fieldsOf word)) ⌝ }
 {
+    let f = fields_of(word);
     let i = Instr::Arithmetic(Arithmetic::Multiply {
         sign,
         rt: f.rt,
@@ -265,10 +286,11 @@ fn multiply(f: Fields, sign: Sign) -> Decoded
     settle_whole(i, forms::multiply(sign, f.rt, f.ra, f.rb, f.rc))
 }
 
-fn logic_imm(f: Fields, op: LogicImmOp) -> Decoded
-    requires { ⌜ IsFields f × (f .op ≡ logicImmCode op) ⌝ }
-    ensures { λ r. ⌜ r ≡ settleOf (f .word) (logicImmAt op f) ⌝ }
+fn logic_imm(word: u32, op: LogicImmOp) -> Decoded
+    requires { ⌜ fieldsOf word .op ≡ logicImmCode op ⌝ }
+    ensures { λ r. ⌜ r ≡ settleOf word (logicImmAt op (fieldsOf word)) ⌝ }
 {
+    let f = fields_of(word);
     let i = Instr::Logical(Logical::Immediate {
         op,
         rs: f.rt,
@@ -278,10 +300,11 @@ fn logic_imm(f: Fields, op: LogicImmOp) -> Decoded
     settle_whole(i, forms::logic_imm(op, f.rt, f.ra, f.imm))
 }
 
-fn logic(f: Fields, op: LogicOp) -> Decoded
-    requires { ⌜ IsFields f × (f .op ≡ 31) × (f .x ≡ logicCode op) ⌝ }
-    ensures { λ r. ⌜ r ≡ settleOf (f .word) (logicAt op f) ⌝ }
+fn logic(word: u32, op: LogicOp) -> Decoded
+    requires { ⌜ (fieldsOf word .op ≡ 31) × (fieldsOf word .x ≡ logicCode op) ⌝ }
+    ensures { λ r. ⌜ r ≡ settleOf word (logicAt op (fieldsOf word)) ⌝ }
 {
+    let f = fields_of(word);
     let i = Instr::Logical(Logical::Register {
         op,
         rs: f.rt,
@@ -292,44 +315,48 @@ fn logic(f: Fields, op: LogicOp) -> Decoded
     settle_whole(i, forms::logic(op, f.rt, f.ra, f.rb, f.rc))
 }
 
-fn logic_one(f: Fields, op: LogicOneOp) -> Decoded
-    ensures { λ r. ⌜ r ≡ settleOf (f .word) (logicOneAt op f) ⌝ }
+fn logic_one(word: u32, op: LogicOneOp) -> Decoded
+    ensures { λ r. ⌜ r ≡ settleOf word (logicOneAt op (fieldsOf word)) ⌝ }
 {
+    let f = fields_of(word);
     let i = Instr::Logical(Logical::One {
         op,
         rs: f.rt,
         ra: f.ra,
         rc: f.rc,
     });
-    settle(f.word, i, forms::logic_one(op, f.rt, f.ra, f.rc))
+    settle(word, i, forms::logic_one(op, f.rt, f.ra, f.rc))
 }
 
-fn compare_imm(f: Fields, sign: Sign) -> Decoded
-    ensures { λ r. ⌜ r ≡ settleOf (f .word) (compareImmAt sign f) ⌝ }
+fn compare_imm(word: u32, sign: Sign) -> Decoded
+    ensures { λ r. ⌜ r ≡ settleOf word (compareImmAt sign (fieldsOf word)) ⌝ }
 {
+    let f = fields_of(word);
     let i = Instr::Compare(Compare::Immediate {
         sign,
         ra: f.ra,
         imm: f.imm,
     });
-    settle(f.word, i, forms::compare_imm(sign, f.ra, f.imm))
+    settle(word, i, forms::compare_imm(sign, f.ra, f.imm))
 }
 
-fn compare(f: Fields, sign: Sign) -> Decoded
-    ensures { λ r. ⌜ r ≡ settleOf (f .word) (compareAt sign f) ⌝ }
+fn compare(word: u32, sign: Sign) -> Decoded
+    ensures { λ r. ⌜ r ≡ settleOf word (compareAt sign (fieldsOf word)) ⌝ }
 {
+    let f = fields_of(word);
     let i = Instr::Compare(Compare::Register {
         sign,
         ra: f.ra,
         rb: f.rb,
     });
-    settle(f.word, i, forms::compare(sign, f.ra, f.rb))
+    settle(word, i, forms::compare(sign, f.ra, f.rb))
 }
 
-fn rotate_imm(f: Fields, op: RotateOp) -> Decoded
-    requires { ⌜ IsFields f × (f .op ≡ rotateCode op) ⌝ }
-    ensures { λ r. ⌜ r ≡ settleOf (f .word) (rotateImmAt op f) ⌝ }
+fn rotate_imm(word: u32, op: RotateOp) -> Decoded
+    requires { ⌜ fieldsOf word .op ≡ rotateCode op ⌝ }
+    ensures { λ r. ⌜ r ≡ settleOf word (rotateImmAt op (fieldsOf word)) ⌝ }
 {
+    let f = fields_of(word);
     let i = Instr::Rotate(Rotate::Immediate {
         op,
         rs: f.rt,
@@ -345,10 +372,11 @@ fn rotate_imm(f: Fields, op: RotateOp) -> Decoded
     )
 }
 
-fn rotate(f: Fields) -> Decoded
-    requires { ⌜ IsFields f × (f .op ≡ 23) ⌝ }
-    ensures { λ r. ⌜ r ≡ settleOf (f .word) (rotateAt f) ⌝ }
+fn rotate(word: u32) -> Decoded
+    requires { ⌜ fieldsOf word .op ≡ 23 ⌝ }
+    ensures { λ r. ⌜ r ≡ settleOf word (rotateAt (fieldsOf word)) ⌝ }
 {
+    let f = fields_of(word);
     let i = Instr::Rotate(Rotate::Register {
         rs: f.rt,
         ra: f.ra,
@@ -360,10 +388,11 @@ fn rotate(f: Fields) -> Decoded
     settle_whole(i, forms::rotate(f.rt, f.ra, f.rb, f.mb, f.me, f.rc))
 }
 
-fn shift(f: Fields, op: ShiftOp) -> Decoded
-    requires { ⌜ IsFields f × (f .op ≡ 31) × (f .x ≡ shiftCode op) ⌝ }
-    ensures { λ r. ⌜ r ≡ settleOf (f .word) (shiftAt op f) ⌝ }
+fn shift(word: u32, op: ShiftOp) -> Decoded
+    requires { ⌜ (fieldsOf word .op ≡ 31) × (fieldsOf word .x ≡ shiftCode op) ⌝ }
+    ensures { λ r. ⌜ r ≡ settleOf word (shiftAt op (fieldsOf word)) ⌝ }
 {
+    let f = fields_of(word);
     let i = Instr::Rotate(Rotate::Shift {
         op,
         rs: f.rt,
@@ -374,10 +403,11 @@ fn shift(f: Fields, op: ShiftOp) -> Decoded
     settle_whole(i, forms::shift(op, f.rt, f.ra, f.rb, f.rc))
 }
 
-fn srawi(f: Fields) -> Decoded
-    requires { ⌜ IsFields f × (f .op ≡ 31) × (f .x ≡ 824) ⌝ }
-    ensures { λ r. ⌜ r ≡ settleOf (f .word) (srawiAt f) ⌝ }
+fn srawi(word: u32) -> Decoded
+    requires { ⌜ (fieldsOf word .op ≡ 31) × (fieldsOf word .x ≡ 824) ⌝ }
+    ensures { λ r. ⌜ r ≡ settleOf word (srawiAt (fieldsOf word)) ⌝ }
 {
+    let f = fields_of(word);
     let i = Instr::Rotate(Rotate::Srawi {
         rs: f.rt,
         ra: f.ra,
@@ -387,10 +417,11 @@ fn srawi(f: Fields) -> Decoded
     settle_whole(i, forms::srawi(f.rt, f.ra, f.rb, f.rc))
 }
 
-fn load(f: Fields, width: Width, update: bool) -> Decoded
-    requires { ⌜ IsFields f × (f .op ≡ loadCode width update) ⌝ }
-    ensures { λ r. ⌜ r ≡ settleOf (f .word) (loadAt width update f) ⌝ }
+fn load(word: u32, width: Width, update: bool) -> Decoded
+    requires { ⌜ fieldsOf word .op ≡ loadCode width update ⌝ }
+    ensures { λ r. ⌜ r ≡ settleOf word (loadAt width update (fieldsOf word)) ⌝ }
 {
+    let f = fields_of(word);
     let i = Instr::LoadStore(LoadStore::Load {
         width,
         update,
@@ -401,22 +432,24 @@ fn load(f: Fields, width: Width, update: bool) -> Decoded
     settle_whole(i, forms::load(width, update, f.rt, f.ra, f.imm))
 }
 
-fn load_indexed(f: Fields, width: Width) -> Decoded
-    ensures { λ r. ⌜ r ≡ settleOf (f .word) (loadIndexedAt width f) ⌝ }
+fn load_indexed(word: u32, width: Width) -> Decoded
+    ensures { λ r. ⌜ r ≡ settleOf word (loadIndexedAt width (fieldsOf word)) ⌝ }
 {
+    let f = fields_of(word);
     let i = Instr::LoadStore(LoadStore::LoadIndexed {
         width,
         rt: f.rt,
         ra: f.ra,
         rb: f.rb,
     });
-    settle(f.word, i, forms::load_indexed(width, f.rt, f.ra, f.rb))
+    settle(word, i, forms::load_indexed(width, f.rt, f.ra, f.rb))
 }
 
-fn store(f: Fields, width: Width, update: bool) -> Decoded
-    requires { ⌜ IsFields f × (f .op ≡ storeCode width update) ⌝ }
-    ensures { λ r. ⌜ r ≡ settleOf (f .word) (storeAt width update f) ⌝ }
+fn store(word: u32, width: Width, update: bool) -> Decoded
+    requires { ⌜ fieldsOf word .op ≡ storeCode width update ⌝ }
+    ensures { λ r. ⌜ r ≡ settleOf word (storeAt width update (fieldsOf word)) ⌝ }
 {
+    let f = fields_of(word);
     let i = Instr::LoadStore(LoadStore::Store {
         width,
         update,
@@ -427,22 +460,24 @@ fn store(f: Fields, width: Width, update: bool) -> Decoded
     settle_whole(i, forms::store(width, update, f.rt, f.ra, f.imm))
 }
 
-fn store_indexed(f: Fields, width: Width) -> Decoded
-    ensures { λ r. ⌜ r ≡ settleOf (f .word) (storeIndexedAt width f) ⌝ }
+fn store_indexed(word: u32, width: Width) -> Decoded
+    ensures { λ r. ⌜ r ≡ settleOf word (storeIndexedAt width (fieldsOf word)) ⌝ }
 {
+    let f = fields_of(word);
     let i = Instr::LoadStore(LoadStore::StoreIndexed {
         width,
         rs: f.rt,
         ra: f.ra,
         rb: f.rb,
     });
-    settle(f.word, i, forms::store_indexed(width, f.rt, f.ra, f.rb))
+    settle(word, i, forms::store_indexed(width, f.rt, f.ra, f.rb))
 }
 
-fn branch(f: Fields) -> Decoded
-    requires { ⌜ IsFields f × (f .op ≡ 18) ⌝ }
-    ensures { λ r. ⌜ r ≡ settleOf (f .word) (branchAt f) ⌝ }
+fn branch(word: u32) -> Decoded
+    requires { ⌜ fieldsOf word .op ≡ 18 ⌝ }
+    ensures { λ r. ⌜ r ≡ settleOf word (branchAt (fieldsOf word)) ⌝ }
 {
+    let f = fields_of(word);
     let i = Instr::Branch(Branch::Always {
         aa: f.aa,
         lk: f.rc,
@@ -451,10 +486,11 @@ fn branch(f: Fields) -> Decoded
     settle_whole(i, forms::branch(f.aa, f.rc, f.li))
 }
 
-fn branch_if(f: Fields) -> Decoded
-    requires { ⌜ IsFields f × (f .op ≡ 16) ⌝ }
-    ensures { λ r. ⌜ r ≡ settleOf (f .word) (branchIfAt f) ⌝ }
+fn branch_if(word: u32) -> Decoded
+    requires { ⌜ fieldsOf word .op ≡ 16 ⌝ }
+    ensures { λ r. ⌜ r ≡ settleOf word (branchIfAt (fieldsOf word)) ⌝ }
 {
+    let f = fields_of(word);
     let i = Instr::Branch(Branch::Conditional {
         bo: f.rt,
         bi: f.ra,
@@ -465,10 +501,11 @@ fn branch_if(f: Fields) -> Decoded
     settle_whole(i, forms::branch_if(f.rt, f.ra, f.bd, f.aa, f.rc))
 }
 
-fn branch_to(f: Fields, op: BranchOp) -> Decoded
-    requires { ⌜ IsFields f × (f .op ≡ 19) × (f .x ≡ branchCode op) ⌝ }
-    ensures { λ r. ⌜ r ≡ settleOf (f .word) (branchToAt op f) ⌝ }
+fn branch_to(word: u32, op: BranchOp) -> Decoded
+    requires { ⌜ (fieldsOf word .op ≡ 19) × (fieldsOf word .x ≡ branchCode op) ⌝ }
+    ensures { λ r. ⌜ r ≡ settleOf word (branchToAt op (fieldsOf word)) ⌝ }
 {
+    let f = fields_of(word);
     let i = Instr::Branch(Branch::Register {
         op,
         bo: f.rt,
@@ -479,10 +516,11 @@ fn branch_to(f: Fields, op: BranchOp) -> Decoded
     settle_whole(i, forms::branch_to(op, f.rt, f.ra, f.rb, f.rc))
 }
 
-fn trap(f: Fields) -> Decoded
-    requires { ⌜ IsFields f × (f .op ≡ 31) × (f .x ≡ 4) ⌝ }
-    ensures { λ r. ⌜ r ≡ settleOf (f .word) (trapAt f) ⌝ }
+fn trap(word: u32) -> Decoded
+    requires { ⌜ (fieldsOf word .op ≡ 31) × (fieldsOf word .x ≡ 4) ⌝ }
+    ensures { λ r. ⌜ r ≡ settleOf word (trapAt (fieldsOf word)) ⌝ }
 {
+    let f = fields_of(word);
     let i = Instr::Trap {
         to: f.rt,
         ra: f.ra,
@@ -492,53 +530,57 @@ fn trap(f: Fields) -> Decoded
     settle_whole(i, forms::trap(f.rt, f.ra, f.rb, f.rc))
 }
 
-fn move_spr(f: Fields, op: SprOp) -> Decoded
-    ensures { λ r. ⌜ r ≡ settleOf (f .word) (moveSprAt op f) ⌝ }
+fn move_spr(word: u32, op: SprOp) -> Decoded
+    ensures { λ r. ⌜ r ≡ settleOf word (moveSprAt op (fieldsOf word)) ⌝ }
 {
+    let f = fields_of(word);
     let i = Instr::System(System::Spr {
         op,
         rt: f.rt,
         spr: f.spr,
     });
-    settle(f.word, i, forms::move_spr(op, f.rt, f.spr))
+    settle(word, i, forms::move_spr(op, f.rt, f.spr))
 }
 
-fn move_reg(f: Fields, op: MoveOp) -> Decoded
-    ensures { λ r. ⌜ r ≡ settleOf (f .word) (moveRegAt op f) ⌝ }
+fn move_reg(word: u32, op: MoveOp) -> Decoded
+    ensures { λ r. ⌜ r ≡ settleOf word (moveRegAt op (fieldsOf word)) ⌝ }
 {
+    let f = fields_of(word);
     let i = Instr::System(System::Move { op, rt: f.rt });
-    settle(f.word, i, forms::move_reg(op, f.rt))
+    settle(word, i, forms::move_reg(op, f.rt))
 }
 
-fn wrteei(f: Fields) -> Decoded
-    ensures { λ r. ⌜ r ≡ settleOf (f .word) (wrteeiAt f) ⌝ }
+fn wrteei(word: u32) -> Decoded
+    ensures { λ r. ⌜ r ≡ settleOf word (wrteeiAt (fieldsOf word)) ⌝ }
 {
+    let f = fields_of(word);
     let i = Instr::System(System::Wrteei { e: f.e });
-    settle(f.word, i, forms::wrteei(f.e))
+    settle(word, i, forms::wrteei(f.e))
 }
 
-fn rfi(f: Fields) -> Decoded
-    ensures { λ r. ⌜ r ≡ settleOf (f .word) (rfiAt f) ⌝ }
+fn rfi(word: u32) -> Decoded
+    ensures { λ r. ⌜ r ≡ settleOf word (rfiAt (fieldsOf word)) ⌝ }
 {
     let i = Instr::System(System::Rfi);
-    settle(f.word, i, forms::rfi())
+    settle(word, i, forms::rfi())
 }
 
-fn sync(f: Fields) -> Decoded
-    ensures { λ r. ⌜ r ≡ settleOf (f .word) (syncAt f) ⌝ }
+fn sync(word: u32) -> Decoded
+    ensures { λ r. ⌜ r ≡ settleOf word (syncAt (fieldsOf word)) ⌝ }
 {
     let i = Instr::System(System::Sync);
-    settle(f.word, i, forms::sync())
+    settle(word, i, forms::sync())
 }
 
-fn cache(f: Fields, op: CacheOp) -> Decoded
-    ensures { λ r. ⌜ r ≡ settleOf (f .word) (cacheAt op f) ⌝ }
+fn cache(word: u32, op: CacheOp) -> Decoded
+    ensures { λ r. ⌜ r ≡ settleOf word (cacheAt op (fieldsOf word)) ⌝ }
 {
+    let f = fields_of(word);
     let i = Instr::Cache {
         op,
         hint: f.rt,
         ra: f.ra,
         rb: f.rb,
     };
-    settle(f.word, i, forms::cache(op, f.rt, f.ra, f.rb))
+    settle(word, i, forms::cache(op, f.rt, f.ra, f.rb))
 }

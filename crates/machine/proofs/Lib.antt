@@ -1,2 +1,3 @@
--- What the crates above cite.
+-- What the proofs of several functions share, and what the crates above cite.
 pub mod Refusals
+pub mod Quiet

@@ -1,6 +1,8 @@
 // The arithmetic instructions.
 ghost use mathlib.Core.Path.{_≡_};
-ghost use mathlib.Core.Bool.{false};
+ghost use mathlib.Core.Bool.{true, false};
+ghost use Rattle.word.specs.Logical.{inv};
+ghost use Rattle.word.specs.Sum.{sumOf};
 ghost use Rattle.machine.specs.State.{gprOf, baseOf};
 ghost use Rattle.machine.specs.Result.{carryOf, resultOf};
 ghost use Rattle.machine.specs.Arithmetic.{immSum, immCarries, immRecords, regSum, regCarries, oneSum, oneCarries, product, summedOf, arithmeticOf};
@@ -17,70 +19,7 @@ use word::multiply::low_unsigned;
 use word::sign::extend_half;
 use word::sum::Sum;
 use word::sum::add;
-
-// The sum of addi, addis, addic, addic. and subfic, of (RA|0), (RA) and SI.
-fn imm_sum(op: ArithImmOp, base: u32, a: u32, si: u16) -> Sum
-    ensures { λ r. ⌜ r ≡ immSum op base a si ⌝ }
-{
-    match op {
-        ArithImmOp::Addi => add(base, extend_half(si), false),
-        ArithImmOp::Addis => add(base, field_at(Bit(0), Bit(15), si as u32), false),
-        ArithImmOp::Addic => add(a, extend_half(si), false),
-        ArithImmOp::AddicDot => add(a, extend_half(si), false),
-        ArithImmOp::Subfic => add(!a, extend_half(si), true),
-    }
-}
-
-fn imm_carries(op: ArithImmOp) -> bool
-    ensures { λ r. ⌜ r ≡ immCarries op ⌝ }
-{
-    match op {
-        ArithImmOp::Addi => false,
-        ArithImmOp::Addis => false,
-        ArithImmOp::Addic => true,
-        ArithImmOp::AddicDot => true,
-        ArithImmOp::Subfic => true,
-    }
-}
-
-fn imm_records(op: ArithImmOp) -> bool
-    ensures { λ r. ⌜ r ≡ immRecords op ⌝ }
-{
-    match op {
-        ArithImmOp::Addi => false,
-        ArithImmOp::Addis => false,
-        ArithImmOp::Addic => false,
-        ArithImmOp::AddicDot => true,
-        ArithImmOp::Subfic => false,
-    }
-}
-
-// The sum of add, addc, adde, subf, subfc and subfe, of (RA), (RB) and CA.
-fn reg_sum(op: ArithOp, a: u32, b: u32, ca: bool) -> Sum
-    ensures { λ r. ⌜ r ≡ regSum op a b ca ⌝ }
-{
-    match op {
-        ArithOp::Add => add(a, b, false),
-        ArithOp::Addc => add(a, b, false),
-        ArithOp::Adde => add(a, b, ca),
-        ArithOp::Subf => add(!a, b, true),
-        ArithOp::Subfc => add(!a, b, true),
-        ArithOp::Subfe => add(!a, b, ca),
-    }
-}
-
-fn reg_carries(op: ArithOp) -> bool
-    ensures { λ r. ⌜ r ≡ regCarries op ⌝ }
-{
-    match op {
-        ArithOp::Add => false,
-        ArithOp::Addc => true,
-        ArithOp::Adde => true,
-        ArithOp::Subf => false,
-        ArithOp::Subfc => true,
-        ArithOp::Subfe => true,
-    }
-}
+use word::sum::plus;
 
 // The sum of addme, addze, subfme, subfze and neg, of (RA) and CA.
 fn one_sum(op: ArithOneOp, a: u32, ca: bool) -> Sum
@@ -126,19 +65,56 @@ impl State {
             .finish(rt, sum.value, rc)
     }
 
+    // The same for a sum with an immediate that writes CA and not OV.
+    fn finish_carry(self, rt: u8, sum: Sum, rc: bool) -> State
+        ensures { λ r. ⌜ r ≡ summedOf self rt sum true false rc ⌝ }
+    {
+        self.finish_sum(rt, sum, true, false, rc)
+    }
+
+    // addi and addis add to (RA|0), the others to (RA) or its complement.
     fn arith_imm(self, op: ArithImmOp, rt: u8, ra: u8, si: u16) -> State
         ensures { λ r. ⌜ r ≡ summedOf self rt (immSum op (baseOf self ra) (gprOf self ra) si) (immCarries op) false (immRecords op) ⌝ }
     {
-        let sum = imm_sum(op, self.base(ra), self.reg(ra), si);
-        self.finish_sum(rt, sum, imm_carries(op), false, imm_records(op))
+        let low = extend_half(si);
+        let high = field_at(Bit(0), Bit(15), si as u32);
+        match op {
+            ArithImmOp::Addi => self.finish(rt, plus(self.base(ra), low), false),
+            ArithImmOp::Addis => self.finish(rt, plus(self.base(ra), high), false),
+            ArithImmOp::Addic => self.finish_carry(rt, add(self.reg(ra), low, false), false),
+            ArithImmOp::AddicDot => self.finish_carry(rt, add(self.reg(ra), low, false), true),
+            ArithImmOp::Subfic => self.finish_carry(rt, add(!self.reg(ra), low, true), false),
+        }
+    }
+
+    // The sum of (RA), (RB) and a carry.
+    fn add_regs(self, rt: u8, ra: u8, rb: u8, ca: bool, carries: bool, oe: bool, rc: bool) -> State
+        ensures { λ r. ⌜ r ≡ summedOf self rt (sumOf (gprOf self ra) (gprOf self rb) ca) carries oe rc ⌝ }
+    {
+        let got = self.pair(ra, rb);
+        self.finish_sum(rt, add(got.a, got.b, ca), carries, oe, rc)
+    }
+
+    // The sum of the complement of (RA), (RB) and a carry.
+    fn sub_regs(self, rt: u8, ra: u8, rb: u8, ca: bool, carries: bool, oe: bool, rc: bool) -> State
+        ensures { λ r. ⌜ r ≡ summedOf self rt (sumOf (inv (gprOf self ra)) (gprOf self rb) ca) carries oe rc ⌝ }
+    {
+        let got = self.pair(ra, rb);
+        self.finish_sum(rt, add(!got.a, got.b, ca), carries, oe, rc)
     }
 
     fn arith_reg(self, op: ArithOp, rt: u8, ra: u8, rb: u8, oe: bool, rc: bool) -> State
         ensures { λ r. ⌜ r ≡ summedOf self rt (regSum op (gprOf self ra) (gprOf self rb) (carryOf self)) (regCarries op) oe rc ⌝ }
     {
-        let got = self.pair(ra, rb);
-        let sum = reg_sum(op, got.a, got.b, self.carry());
-        self.finish_sum(rt, sum, reg_carries(op), oe, rc)
+        let ca = self.carry();
+        match op {
+            ArithOp::Add => self.add_regs(rt, ra, rb, false, false, oe, rc),
+            ArithOp::Addc => self.add_regs(rt, ra, rb, false, true, oe, rc),
+            ArithOp::Adde => self.add_regs(rt, ra, rb, ca, true, oe, rc),
+            ArithOp::Subf => self.sub_regs(rt, ra, rb, true, false, oe, rc),
+            ArithOp::Subfc => self.sub_regs(rt, ra, rb, true, true, oe, rc),
+            ArithOp::Subfe => self.sub_regs(rt, ra, rb, ca, true, oe, rc),
+        }
     }
 
     fn arith_one(self, op: ArithOneOp, rt: u8, ra: u8, oe: bool, rc: bool) -> State

@@ -1,7 +1,9 @@
 // The state of a core, by value: each write of a register gives the next state.
 ghost use mathlib.Core.Path.{_≡_};
 ghost use Prim.Native.Nat.{_<_};
+ghost use lib.ListN.{set};
 ghost use Rattle.machine.specs.State.{placeOf, gprOf, baseOf, withGpr, with};
+use word::shift::select;
 
 pub struct State {
     pub gpr: [u32; 16],
@@ -65,6 +67,19 @@ fn place(n: u8) -> usize
     if n == 13 { 11 } else { (n % 16) as usize }
 }
 
+// The sixteen with one of them replaced. Each is chosen and none is stored to: a store of one would hold up the next read of all.
+fn replaced(gpr: [u32; 16], at: usize, v: u32) -> [u32; 16]
+    ensures { λ r. ⌜ r ≡ set gpr at v ⌝ }
+{
+    let mut all = [0; 16];
+    let mut k = 0;
+    while k < 16 {
+        all[k] = select(at == k, v, gpr[k]);
+        k += 1;
+    }
+    all
+}
+
 // The sixteen are indexed apart from the rest of the state, so that a compiler can keep that in registers.
 impl State {
     // The contents of a GPR.
@@ -100,9 +115,9 @@ impl State {
         ensures { λ r. ⌜ r ≡ withGpr self n v ⌝ }
     {
         let at = place(n);
-        let mut gpr = self.gpr;
-        gpr[at] = v;
-        self.gpr = gpr;
+        let gpr = self.gpr;
+        let all = replaced(gpr, at, v);
+        self.gpr = all;
         self
     }
 

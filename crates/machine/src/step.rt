@@ -4,6 +4,7 @@ ghost use Rattle.machine.specs.Step.{executeOf, decodedOf, runningOf, aw
 ghost use Rattle.insn.specs.Read.{decodeOf};
 use crate::interrupt::Vector;
 use crate::state::State;
+use crate::timer::quiet;
 use insn::instr::Decoded;
 use insn::instr::Instr;
 use insn::read::read;
@@ -78,10 +79,13 @@ impl State {
         self.running(mem)
     }
 
-    // The highest asynchronous interrupt that is enabled.
+    // The highest asynchronous interrupt that is enabled: in a quiet step there is none.
     fn highest(self, event: u8) -> Pending
         ensures { λ r. ⌜ r ≡ highestOf self event ⌝ }
     {
+        if quiet(self.tcr, event) {
+            return Pending::Nothing;
+        }
         if !bit_at(self.msr, Bit(16)) {
             return Pending::Nothing;
         }

@@ -1,8 +1,10 @@
 // Line 2 of a step, the event byte applied to DEC, TSR and ISR[EP], and line 3, the watchdog's action.
 ghost use mathlib.Core.Path.{_≡_};
 ghost use Prim.Native.Nat.{_≤_};
-ghost use Rattle.memory.specs.Access.{pick};
+ghost use mathlib.Core.Bool.{false, not, _&&_, _||_};
 ghost use lib.Dec.{eqb};
+ghost use Rattle.word.specs.Bits.{bitAt};
+ghost use Rattle.memory.specs.Access.{pick};
 ghost use Rattle.machine.specs.declared.interrupt.Halt.{Halt};
 ghost use Rattle.machine.specs.Timer.{timerIn, decAfter, rises, watchdogEvent, tsrAfter, pendingOf, eventNoted, tickedOf, actsOf, actedOf};
 use crate::interrupt::Halt;
@@ -67,6 +69,14 @@ fn event_pending(tsr: u32, tcr: u32, event: u8) -> bool
         | bit_at(tcr, Bit(4)) & bit_at(tsr, Bit(1))
 }
 
+// No event, none of TCR[WIE], TCR[DIE] and TCR[FIE], and not TCR[DS]: DEC counts, and nothing can be pending.
+pub fn quiet(tcr: u32, event: u8) -> bool
+    ensures { λ r. ⌜ r ≡ (eqb event 0 && not (bitAt tcr 4 || bitAt tcr 5 || bitAt tcr 8 || bitAt tcr 9)) ⌝ }
+{
+    (event == 0)
+        & !(bit_at(tcr, Bit(4)) | bit_at(tcr, Bit(5)) | bit_at(tcr, Bit(8)) | bit_at(tcr, Bit(9)))
+}
+
 // What a watchdog action is, by TCR[WRC].
 fn action(wrc: u32) -> Halt
     ensures { λ r. ⌜ r ≡ pick (eqb wrc 3) Halt.Watchdog Halt.Reset ⌝ }
@@ -88,8 +98,22 @@ impl State {
         self.set(Reg::Isr, isr)
     }
 
-    // The event byte applied.
-    pub fn tick(self, event: u8) -> State
+    // The event byte applied in a quiet step: DEC counts, DIS is set where its bit 0 rises, and EP is cleared.
+    fn count(self) -> State
+        requires { ⌜ (bitAt (self .tcr) 4 || bitAt (self .tcr) 5 || bitAt (self .tcr) 8 || bitAt (self .tcr) 9) ≡ false ⌝ }
+        ensures { λ r. ⌜ r ≡ tickedOf self 0 ⌝ }
+    {
+        let dec = plus(self.dec, 0xFFFF_FFFF);
+        let dis = field_at(Bit(4), Bit(4), digit_of(bit_rises(self.dec, dec)));
+        let tsr = self.tsr | dis;
+        let isr = put_at(self.isr, Bit(21), Bit(21), 0);
+        self.set(Reg::Dec, dec)
+            .set(Reg::Tsr, tsr)
+            .set(Reg::Isr, isr)
+    }
+
+    // The event byte applied in any step.
+    fn apply(self, event: u8) -> State
         ensures { λ r. ⌜ r ≡ tickedOf self event ⌝ }
     {
         let dec = dec_after(self.dec, self.tcr, event);
@@ -97,10 +121,24 @@ impl State {
         self.set(Reg::Dec, dec).set(Reg::Tsr, tsr).note_event(event)
     }
 
+    // The event byte applied.
+    pub fn tick(self, event: u8) -> State
+        ensures { λ r. ⌜ r ≡ tickedOf self event ⌝ }
+    {
+        if quiet(self.tcr, event) {
+            self.count()
+        } else {
+            self.apply(event)
+        }
+    }
+
     // Whether the event makes the watchdog halt or reset the core.
     pub fn acts(self, event: u8) -> bool
         ensures { λ r. ⌜ r ≡ actsOf self event ⌝ }
     {
+        if event == 0 {
+            return false;
+        }
         watchdog_event(self.tcr, event)
             & bit_at(self.tsr, Bit(0))
             & bit_at(self.tsr, Bit(1))

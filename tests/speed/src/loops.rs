@@ -5,7 +5,11 @@ pub struct Loop {
     /// From address 0 on; ends in a branch back to 0.
     code: &'static [u32],
     registers: &'static [(usize, u32)],
+    tcr: u32,
 }
+
+/// TCR[DIE]: the decrementer's interrupt enabled.
+const DIE: u32 = 0x0400_0000;
 
 pub const ARITHMETIC: Loop = Loop {
     name: "arithmetic",
@@ -15,6 +19,7 @@ pub const ARITHMETIC: Loop = Loop {
         0x4BFFFFDC,
     ],
     registers: &[(3, 0x1234_5678), (4, 0x8765_4321)],
+    tcr: 0,
 };
 
 pub const MEMORY: Loop = Loop {
@@ -22,6 +27,7 @@ pub const MEMORY: Loop = Loop {
     // lwz r3,256(r0); addi r3,r3,1; stw r3,256(r0); lhz r4,258(r0); sth r4,260(r0); lbz r5,259(r0); stbx r5,r6,r7; lwzx r8,r6,r7; b 0
     code: &[0x80600100, 0x38630001, 0x90600100, 0xA0800102, 0xB0800104, 0x88A00103, 0x7CA639AE, 0x7D06382E, 0x4BFFFFE0],
     registers: &[(6, 0x200), (7, 0x40)],
+    tcr: 0,
 };
 
 pub const BRANCHES: Loop = Loop {
@@ -32,6 +38,7 @@ pub const BRANCHES: Loop = Loop {
         0x48000005, 0x4BFFFFD8,
     ],
     registers: &[],
+    tcr: 0,
 };
 
 pub const LEDGER: Loop = Loop {
@@ -42,18 +49,23 @@ pub const LEDGER: Loop = Loop {
         0x38C60200, 0x90860000, 0x4BFFFFD4,
     ],
     registers: &[],
+    tcr: 0,
 };
 
-/// What a run changes and the players share; all else starts at 0.
+/// The same in a core that has to look for an interrupt in every step; MSR[EE] masks it.
+pub const ENABLED: Loop = Loop { name: "ledger,DIE", tcr: DIE, ..LEDGER };
+
+/// What a run starts from, and what it changes that the players share; all else starts at 0.
 #[derive(Clone, PartialEq)]
 pub struct State {
     pub gprs: [u32; 16],
+    pub tcr: u32,
     pub memory: Vec<u8>,
 }
 
 impl Loop {
     pub fn start(&self, size: usize) -> State {
-        let mut start = State { gprs: [0; 16], memory: vec![0; size] };
+        let mut start = State { gprs: [0; 16], tcr: self.tcr, memory: vec![0; size] };
         for (register, value) in self.registers {
             start.gprs[*register] = *value;
         }

@@ -1,10 +1,10 @@
 //! `speed [RUNS]`: steps a second of the linked library, of the plain interpreter `second` and of Unicorn where it is built
-//! in, on the same loops, and their times as ratios to those of `second`. Each figure is the best of RUNS runs.
+//! in, on the same loops, and how many times as fast as `second` the others are. Each figure is the best of RUNS runs.
 
 mod loops;
 mod players;
 
-use loops::{Loop, ARITHMETIC, BRANCHES, LEDGER, MEMORY};
+use loops::{Loop, ARITHMETIC, BRANCHES, ENABLED, LEDGER, MEMORY};
 use players::PLAYERS;
 
 const RUNS: u32 = 20;
@@ -15,11 +15,11 @@ const SIZE: usize = 1 << 12;
 
 fn main() {
     let runs = std::env::args().nth(1).and_then(|word| word.parse().ok()).unwrap_or(RUNS);
-    println!("the best of {runs} runs; a ratio is one of times");
+    println!("the best of {runs} runs; a ratio is one of speeds: 2.00 is twice as fast as second");
     let heads =
         ["loop", "M", "steps", "core steps/s", "second steps/s", "Unicorn steps/s", "core/second", "Unicorn/second"];
     show(heads.map(String::from));
-    for each in [ARITHMETIC, MEMORY, BRANCHES, LEDGER] {
+    for each in [ARITHMETIC, MEMORY, BRANCHES, LEDGER, ENABLED] {
         measure(&each, SIZE, STEPS, runs);
     }
     for size in [1 << 16, 1 << 20] {
@@ -34,7 +34,7 @@ fn measure(each: &Loop, size: usize, steps: u32, runs: u32) {
     let best = best(each, size, steps, runs);
     let (core, second, unicorn) = (&best[0], &best[1], best.get(2));
     let rate = |seconds: &f64| format!("{:.0}", f64::from(steps) / seconds);
-    let ratio = |seconds: &f64| format!("{:.2}", seconds / second);
+    let ratio = |seconds: &f64| format!("{:.2}", second / seconds);
     let none = || "-".to_string();
     show([
         each.name.to_string(),

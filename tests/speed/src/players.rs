@@ -4,6 +4,9 @@ use crate::loops::State;
 use linked::LINKED;
 use std::time::Instant;
 
+/// Where a state has TCR.
+const TCR: usize = 4 * 31;
+
 /// Plays so many steps from address 0, and answers the seconds that they took.
 pub type Player = fn(&mut State, u32) -> f64;
 
@@ -19,6 +22,7 @@ fn play(run: fn(&mut [u8], &mut [u8], &[u8], u32) -> u64, state: &mut State, ste
     for (bytes, gpr) in record.chunks_exact_mut(4).zip(state.gprs) {
         bytes.copy_from_slice(&gpr.to_be_bytes());
     }
+    record[TCR..TCR + 4].copy_from_slice(&state.tcr.to_be_bytes());
     let began = Instant::now();
     let answer = run(&mut record, &mut state.memory, &[], steps);
     let seconds = began.elapsed().as_secs_f64();
@@ -35,6 +39,6 @@ fn emulate(state: &mut State, steps: u32) -> f64 {
     let began = Instant::now();
     unicorn::done(engine.run(0, steps as usize));
     let seconds = began.elapsed().as_secs_f64();
-    *state = State { gprs: engine.gprs(), memory: engine.memory().to_vec() };
+    *state = State { gprs: engine.gprs(), memory: engine.memory().to_vec(), ..*state };
     seconds
 }

@@ -1,4 +1,5 @@
 -- `insn::read::branch` meets its contract: the form names every bit. Assumes nothing.
+use native.Mathlib.Omega.{arith}
 use borrow.Author.Needs.{needs}
 use Rattle.insn.specs.Read.{branchAt}
 use Rattle.insn.proofs.Laws.{whole}
@@ -12,4 +13,5 @@ branch-spec =
     (tie.spec
     (λ c κs. search needs)
     (λ c κs. search needs)
-    (λ c. whole (branchAt (c .before .before .args .f)) (c .settle-whole .ensures) (i-whole (c .before .before .args .f) (c .before .before .pre))))
+    (λ c κs. search needs)
+    (λ c. whole branchAt (c .before .before .fields-of .ensures) (c .settle-whole .ensures) (i-whole (c .before .before .before .args .word) (omega arith) (c .before .before .before .pre))))

@@ -1,4 +1,6 @@
 -- `insn::read::read_19` meets its contract: each arm is its row, and the default has none of them. Assumes nothing.
+use mathlib.Core.Path.{refl}
+use Prim.Native.Nat.{ℕ}
 use borrow.Author.Needs.{needs}
 use Rattle.insn.specs.Read.{opcode19, rows19, nothing}
 use Rattle.insn.proofs.Laws.{hit, miss}
@@ -13,7 +15,8 @@ read-19-spec =
     (λ c κs. search needs)
     (λ c κs. search needs)
     (λ c κs. search needs)
-    (λ c. hit opcode19 (c .before .before .args .f) (c .before .match .keys1) (c .branch-to .ensures))
-    (λ c. hit opcode19 (c .before .before .args .f) (c .before .match .keys2) (c .branch-to2 .ensures))
-    (λ c. hit opcode19 (c .before .before .args .f) (c .before .match .keys3) (c .rfi .ensures))
-    (λ c. rw (miss rows19 nothing (c .before .args .f .x) (c .match .rest))))
+    (λ c κs. search needs)
+    (λ c. hit opcode19 (c .before .before .before .args .word) (c .before .before .x-opcode .ensures) (c .before .match .keys1) (c .branch-to .ensures))
+    (λ c. hit opcode19 (c .before .before .before .args .word) (c .before .before .x-opcode .ensures) (c .before .match .keys2) (c .branch-to2 .ensures))
+    (λ c. hit opcode19 (c .before .before .before .args .word) (c .before .before .x-opcode .ensures) (c .before .match .keys3) (c .rfi .ensures))
+    (λ c. miss rows19 (λ (n : ℕ). nothing) (c .before .before .args .word) (c .before .x-opcode .ensures) (c .match .rest) refl))

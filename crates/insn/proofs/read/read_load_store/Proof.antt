@@ -1,4 +1,6 @@
 -- `insn::read::read_load_store` meets its contract: each arm is its row, and the default has none of them. Assumes nothing.
+use mathlib.Core.Path.{refl}
+use Prim.Native.Nat.{ℕ}
 use borrow.Author.Needs.{needs}
 use Rattle.insn.specs.Read.{loadStore, loadStoreRows, nothing}
 use Rattle.insn.proofs.Laws.{hit, miss}
@@ -22,16 +24,17 @@ read-load-store-spec =
     (λ c κs. search needs)
     (λ c κs. search needs)
     (λ c κs. search needs)
-    (λ c. hit loadStore (c .before .before .args .f) (c .before .match .keys1) (c .load .ensures))
-    (λ c. hit loadStore (c .before .before .args .f) (c .before .match .keys2) (c .load2 .ensures))
-    (λ c. hit loadStore (c .before .before .args .f) (c .before .match .keys3) (c .load3 .ensures))
-    (λ c. hit loadStore (c .before .before .args .f) (c .before .match .keys4) (c .load4 .ensures))
-    (λ c. hit loadStore (c .before .before .args .f) (c .before .match .keys5) (c .load5 .ensures))
-    (λ c. hit loadStore (c .before .before .args .f) (c .before .match .keys6) (c .load6 .ensures))
-    (λ c. hit loadStore (c .before .before .args .f) (c .before .match .keys7) (c .store .ensures))
-    (λ c. hit loadStore (c .before .before .args .f) (c .before .match .keys8) (c .store2 .ensures))
-    (λ c. hit loadStore (c .before .before .args .f) (c .before .match .keys9) (c .store3 .ensures))
-    (λ c. hit loadStore (c .before .before .args .f) (c .before .match .keys10) (c .store4 .ensures))
-    (λ c. hit loadStore (c .before .before .args .f) (c .before .match .keys11) (c .store5 .ensures))
-    (λ c. hit loadStore (c .before .before .args .f) (c .before .match .keys12) (c .store6 .ensures))
-    (λ c. rw (miss loadStoreRows nothing (c .before .args .f .op) (c .match .rest))))
+    (λ c κs. search needs)
+    (λ c. hit loadStore (c .before .before .before .args .word) (c .before .before .opcode .ensures) (c .before .match .keys1) (c .load .ensures))
+    (λ c. hit loadStore (c .before .before .before .args .word) (c .before .before .opcode .ensures) (c .before .match .keys2) (c .load2 .ensures))
+    (λ c. hit loadStore (c .before .before .before .args .word) (c .before .before .opcode .ensures) (c .before .match .keys3) (c .load3 .ensures))
+    (λ c. hit loadStore (c .before .before .before .args .word) (c .before .before .opcode .ensures) (c .before .match .keys4) (c .load4 .ensures))
+    (λ c. hit loadStore (c .before .before .before .args .word) (c .before .before .opcode .ensures) (c .before .match .keys5) (c .load5 .ensures))
+    (λ c. hit loadStore (c .before .before .before .args .word) (c .before .before .opcode .ensures) (c .before .match .keys6) (c .load6 .ensures))
+    (λ c. hit loadStore (c .before .before .before .args .word) (c .before .before .opcode .ensures) (c .before .match .keys7) (c .store .ensures))
+    (λ c. hit loadStore (c .before .before .before .args .word) (c .before .before .opcode .ensures) (c .before .match .keys8) (c .store2 .ensures))
+    (λ c. hit loadStore (c .before .before .before .args .word) (c .before .before .opcode .ensures) (c .before .match .keys9) (c .store3 .ensures))
+    (λ c. hit loadStore (c .before .before .before .args .word) (c .before .before .opcode .ensures) (c .before .match .keys10) (c .store4 .ensures))
+    (λ c. hit loadStore (c .before .before .before .args .word) (c .before .before .opcode .ensures) (c .before .match .keys11) (c .store5 .ensures))
+    (λ c. hit loadStore (c .before .before .before .args .word) (c .before .before .opcode .ensures) (c .before .match .keys12) (c .store6 .ensures))
+    (λ c. miss loadStoreRows (λ (n : ℕ). nothing) (c .before .before .args .word) (c .before .opcode .ensures) (c .match .rest) refl))

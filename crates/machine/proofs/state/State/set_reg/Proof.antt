@@ -1,4 +1,4 @@
--- `State::set_reg` meets its contract. Assumes nothing.
+-- `State::set_reg` meets its contract, by what its callees ensure. Assumes nothing.
 use Rattle.machine.specs.State.{withGpr}
 use borrow.Author.Needs.{needs}
 use Rattle.machine.proofs.state.State.set_reg.Statement.{statement}
@@ -10,6 +10,5 @@ set-reg-spec =
     tie.close
     (tie.spec
     (λ c κs. search needs)
-    (λ c. search needs)
-    (λ c. search needs)
-    (λ c. rw (c .before .place .ensures .0)))
+    (λ c κs. search needs)
+    (λ c. rw (c .replaced .ensures, c .before .before .place .ensures .0)))
