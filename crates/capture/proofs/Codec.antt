@@ -10,6 +10,7 @@ use lib.Seq.{getD-append-add, take-at, take-add, drop-drop, take-all}
 use Rattle.word.specs.declared.width.Width.{Width}
 use Rattle.memory.specs.Load.{valueAt}
 use Rattle.memory.specs.Store.{bytesOf}
+use Rattle.machine.specs.State.{orderOf, holding}
 use Rattle.machine.specs.declared.state.State.{State}
 use Rattle.capture.specs.Words.{wordsAt, wordBytes, othersOf, wordsOf, stateOf}
 use Rattle.capture.proofs.Laws.{elements-are}
@@ -80,8 +81,7 @@ words-length (suc n) at f = ap suc (words-length n (at + 4) f)
 -- the words of a state stand for it
 pub state-of-words : (s : State) → length (s .gpr) ≡ 16 → stateOf (wordsOf s) ≡ s
 unfolding stateOf wordsOf
-state-of-words s g =
-    λ i. record { gpr = take-at (s .gpr) (othersOf s) 16 g i; cr = other 0 i; ctr = other 1 i; dacr = other 2 i; dbcr = other 3 i; dec = other 4 i; edr = other 5 i; isr = other 6 i; ivpr = other 7 i; lr = other 8 i; msr = other 9 i; pir = other 10 i; pvr = other 11 i; sprg0 = other 12 i; srr0 = other 13 i; srr1 = other 14 i; tcr = other 15 i; tsr = other 16 i; xer = other 17 i; iar = other 18 i; halt = other 19 i }
+state-of-words s g = λ i. holding (take-at (s .gpr) (othersOf s) 16 g i) (λ r. other (orderOf r) i)
   where
     other : (k : ℕ) → getD (wordsOf s) (16 + k) 0 ≡ getD (othersOf s) k 0
     other k = rw g at (getD-append-add (s .gpr) (othersOf s) k 0)

@@ -54,7 +54,7 @@ below t m big r e = elim (decLe m r) [ yes h ↦ (let b = big r h in let z : _�
 far : (m n k : ℕ) → m ≤ n → ltb k m ≡ true → eqb n k ≡ false
 far m n k h l = ne-eqb n k (omega (arith, ltb-true))
 
-reg-lt : (r : ℕ) → regOf r ≡ true → r < 32
+pub reg-lt : (r : ℕ) → regOf r ≡ true → r < 32
 unfolding regOf
 reg-lt = below regOf 32 (λ r h. simp (lt-leb r 10 (omega arith), far 32, le-leb 28 r (omega arith), lt-leb r 31 (omega arith)))
 

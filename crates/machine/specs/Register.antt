@@ -1,4 +1,4 @@
--- The bits that each register has (8.10), its contents, and acceptance (refusals 2 and 3).
+-- The bits that each register has (8.10), and acceptance (refusals 2 and 3).
 use Prim.Native.Nat.{ℕ, _%_}
 use mathlib.Core.Bool.{Bool, _&&_}
 use lib.Bits.{bitAnd}
@@ -6,6 +6,7 @@ use lib.Dec.{leb, eqb}
 use Rattle.word.specs.Logical.{inv}
 use Rattle.memory.specs.Access.{pick, sizedOf}
 use Rattle.machine.specs.Refusal.{unless, orElse}
+use Rattle.machine.specs.State.{contentsOf}
 use Rattle.machine.specs.declared.state.State.{State}
 use Rattle.machine.specs.declared.state.Reg.{Reg}
 use Rattle.machine.specs.declared.refusal.Refusal.{Refusal}
@@ -32,29 +33,6 @@ definedOf Reg.Tsr = 0xFC00_0000  -- ENW, WIS, WRS, DIS, FIS
 definedOf Reg.Xer = 0xE000_0000  -- SO, OV, CA
 definedOf Reg.Iar = 0xFFFF_FFFC
 definedOf Reg.Halt = 0xFFFF_FFFF
-
--- the contents of a register
-abbrev pub contentsOf : State → Reg → ℕ
-contentsOf s Reg.Cr = s .cr
-contentsOf s Reg.Ctr = s .ctr
-contentsOf s Reg.Dacr = s .dacr
-contentsOf s Reg.Dbcr = s .dbcr
-contentsOf s Reg.Dec = s .dec
-contentsOf s Reg.Edr = s .edr
-contentsOf s Reg.Isr = s .isr
-contentsOf s Reg.Ivpr = s .ivpr
-contentsOf s Reg.Lr = s .lr
-contentsOf s Reg.Msr = s .msr
-contentsOf s Reg.Pir = s .pir
-contentsOf s Reg.Pvr = s .pvr
-contentsOf s Reg.Sprg0 = s .sprg0
-contentsOf s Reg.Srr0 = s .srr0
-contentsOf s Reg.Srr1 = s .srr1
-contentsOf s Reg.Tcr = s .tcr
-contentsOf s Reg.Tsr = s .tsr
-contentsOf s Reg.Xer = s .xer
-contentsOf s Reg.Iar = s .iar
-contentsOf s Reg.Halt = s .halt
 
 -- no reserved bit of the register is set
 unfoldable pub cleanOf : State → Reg → Bool

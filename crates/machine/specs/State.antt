@@ -1,6 +1,7 @@
 -- The state of a core: sixteen GPRs, the eighteen other registers (8.3, 8.5, 8.6), IAR and the halt code; and each register written alone.
 use Prim.Native.Nat.{ℕ, _%_}
-use mathlib.Core.Bool.{cond}
+use mathlib.Core.Bool.{Bool, cond}
+use mathlib.Core.List.{List, [], _∷_}
 use lib.Dec.{eqb}
 use lib.ListN.{getD, set}
 use Rattle.machine.specs.declared.state.State.{State}
@@ -18,28 +19,93 @@ gprOf s n = getD (s .gpr) (placeOf n) 0
 unfoldable pub baseOf : State → ℕ → ℕ
 baseOf s n = cond (eqb n 0) 0 (gprOf s n)
 
-unfoldable pub withGpr : State → ℕ → ℕ → State
-withGpr s n v = record { gpr = set (s .gpr) (placeOf n) v; cr = s .cr; ctr = s .ctr; dacr = s .dacr; dbcr = s .dbcr; dec = s .dec; edr = s .edr; isr = s .isr; ivpr = s .ivpr; lr = s .lr; msr = s .msr; pir = s .pir; pvr = s .pvr; sprg0 = s .sprg0; srr0 = s .srr0; srr1 = s .srr1; tcr = s .tcr; tsr = s .tsr; xer = s .xer; iar = s .iar; halt = s .halt }
+-- the contents of any other register, of IAR and of the halt code
+abbrev pub contentsOf : State → Reg → ℕ
+contentsOf s Reg.Cr = s .cr
+contentsOf s Reg.Ctr = s .ctr
+contentsOf s Reg.Dacr = s .dacr
+contentsOf s Reg.Dbcr = s .dbcr
+contentsOf s Reg.Dec = s .dec
+contentsOf s Reg.Edr = s .edr
+contentsOf s Reg.Isr = s .isr
+contentsOf s Reg.Ivpr = s .ivpr
+contentsOf s Reg.Lr = s .lr
+contentsOf s Reg.Msr = s .msr
+contentsOf s Reg.Pir = s .pir
+contentsOf s Reg.Pvr = s .pvr
+contentsOf s Reg.Sprg0 = s .sprg0
+contentsOf s Reg.Srr0 = s .srr0
+contentsOf s Reg.Srr1 = s .srr1
+contentsOf s Reg.Tcr = s .tcr
+contentsOf s Reg.Tsr = s .tsr
+contentsOf s Reg.Xer = s .xer
+contentsOf s Reg.Iar = s .iar
+contentsOf s Reg.Halt = s .halt
 
--- any other register, IAR and the halt code
+-- these registers in the order of a capture
+abbrev pub registers : List Reg
+registers =
+    Reg.Cr ∷ Reg.Ctr ∷ Reg.Dacr ∷ Reg.Dbcr ∷ Reg.Dec ∷ Reg.Edr ∷ Reg.Isr ∷ Reg.Ivpr ∷ Reg.Lr ∷ Reg.Msr ∷ Reg.Pir ∷ Reg.Pvr ∷ Reg.Sprg0 ∷ Reg.Srr0 ∷ Reg.Srr1 ∷ Reg.Tcr ∷ Reg.Tsr ∷ Reg.Xer
+    ∷ Reg.Iar ∷ Reg.Halt ∷ []
+
+-- and the place of each among them
+abbrev pub orderOf : Reg → ℕ
+orderOf Reg.Cr = 0
+orderOf Reg.Ctr = 1
+orderOf Reg.Dacr = 2
+orderOf Reg.Dbcr = 3
+orderOf Reg.Dec = 4
+orderOf Reg.Edr = 5
+orderOf Reg.Isr = 6
+orderOf Reg.Ivpr = 7
+orderOf Reg.Lr = 8
+orderOf Reg.Msr = 9
+orderOf Reg.Pir = 10
+orderOf Reg.Pvr = 11
+orderOf Reg.Sprg0 = 12
+orderOf Reg.Srr0 = 13
+orderOf Reg.Srr1 = 14
+orderOf Reg.Tcr = 15
+orderOf Reg.Tsr = 16
+orderOf Reg.Xer = 17
+orderOf Reg.Iar = 18
+orderOf Reg.Halt = 19
+
+-- whether two are one
+abbrev pub same : Reg → Reg → Bool
+same q r = eqb (orderOf q) (orderOf r)
+
+-- the state with these GPRs and these contents
+abbrev pub holding : List ℕ → (Reg → ℕ) → State
+holding g c =
+    record {
+      gpr = g;
+      cr = c Reg.Cr;
+      ctr = c Reg.Ctr;
+      dacr = c Reg.Dacr;
+      dbcr = c Reg.Dbcr;
+      dec = c Reg.Dec;
+      edr = c Reg.Edr;
+      isr = c Reg.Isr;
+      ivpr = c Reg.Ivpr;
+      lr = c Reg.Lr;
+      msr = c Reg.Msr;
+      pir = c Reg.Pir;
+      pvr = c Reg.Pvr;
+      sprg0 = c Reg.Sprg0;
+      srr0 = c Reg.Srr0;
+      srr1 = c Reg.Srr1;
+      tcr = c Reg.Tcr;
+      tsr = c Reg.Tsr;
+      xer = c Reg.Xer;
+      iar = c Reg.Iar;
+      halt = c Reg.Halt;
+    }
+
+-- GPR(n) written, and nothing else
+unfoldable pub withGpr : State → ℕ → ℕ → State
+withGpr s n v = holding (set (s .gpr) (placeOf n) v) (contentsOf s)
+
+-- one of the others written, and nothing else
 unfoldable pub with : State → Reg → ℕ → State
-with s Reg.Cr v = record { gpr = s .gpr; cr = v; ctr = s .ctr; dacr = s .dacr; dbcr = s .dbcr; dec = s .dec; edr = s .edr; isr = s .isr; ivpr = s .ivpr; lr = s .lr; msr = s .msr; pir = s .pir; pvr = s .pvr; sprg0 = s .sprg0; srr0 = s .srr0; srr1 = s .srr1; tcr = s .tcr; tsr = s .tsr; xer = s .xer; iar = s .iar; halt = s .halt }
-with s Reg.Ctr v = record { gpr = s .gpr; cr = s .cr; ctr = v; dacr = s .dacr; dbcr = s .dbcr; dec = s .dec; edr = s .edr; isr = s .isr; ivpr = s .ivpr; lr = s .lr; msr = s .msr; pir = s .pir; pvr = s .pvr; sprg0 = s .sprg0; srr0 = s .srr0; srr1 = s .srr1; tcr = s .tcr; tsr = s .tsr; xer = s .xer; iar = s .iar; halt = s .halt }
-with s Reg.Dacr v = record { gpr = s .gpr; cr = s .cr; ctr = s .ctr; dacr = v; dbcr = s .dbcr; dec = s .dec; edr = s .edr; isr = s .isr; ivpr = s .ivpr; lr = s .lr; msr = s .msr; pir = s .pir; pvr = s .pvr; sprg0 = s .sprg0; srr0 = s .srr0; srr1 = s .srr1; tcr = s .tcr; tsr = s .tsr; xer = s .xer; iar = s .iar; halt = s .halt }
-with s Reg.Dbcr v = record { gpr = s .gpr; cr = s .cr; ctr = s .ctr; dacr = s .dacr; dbcr = v; dec = s .dec; edr = s .edr; isr = s .isr; ivpr = s .ivpr; lr = s .lr; msr = s .msr; pir = s .pir; pvr = s .pvr; sprg0 = s .sprg0; srr0 = s .srr0; srr1 = s .srr1; tcr = s .tcr; tsr = s .tsr; xer = s .xer; iar = s .iar; halt = s .halt }
-with s Reg.Dec v = record { gpr = s .gpr; cr = s .cr; ctr = s .ctr; dacr = s .dacr; dbcr = s .dbcr; dec = v; edr = s .edr; isr = s .isr; ivpr = s .ivpr; lr = s .lr; msr = s .msr; pir = s .pir; pvr = s .pvr; sprg0 = s .sprg0; srr0 = s .srr0; srr1 = s .srr1; tcr = s .tcr; tsr = s .tsr; xer = s .xer; iar = s .iar; halt = s .halt }
-with s Reg.Edr v = record { gpr = s .gpr; cr = s .cr; ctr = s .ctr; dacr = s .dacr; dbcr = s .dbcr; dec = s .dec; edr = v; isr = s .isr; ivpr = s .ivpr; lr = s .lr; msr = s .msr; pir = s .pir; pvr = s .pvr; sprg0 = s .sprg0; srr0 = s .srr0; srr1 = s .srr1; tcr = s .tcr; tsr = s .tsr; xer = s .xer; iar = s .iar; halt = s .halt }
-with s Reg.Isr v = record { gpr = s .gpr; cr = s .cr; ctr = s .ctr; dacr = s .dacr; dbcr = s .dbcr; dec = s .dec; edr = s .edr; isr = v; ivpr = s .ivpr; lr = s .lr; msr = s .msr; pir = s .pir; pvr = s .pvr; sprg0 = s .sprg0; srr0 = s .srr0; srr1 = s .srr1; tcr = s .tcr; tsr = s .tsr; xer = s .xer; iar = s .iar; halt = s .halt }
-with s Reg.Ivpr v = record { gpr = s .gpr; cr = s .cr; ctr = s .ctr; dacr = s .dacr; dbcr = s .dbcr; dec = s .dec; edr = s .edr; isr = s .isr; ivpr = v; lr = s .lr; msr = s .msr; pir = s .pir; pvr = s .pvr; sprg0 = s .sprg0; srr0 = s .srr0; srr1 = s .srr1; tcr = s .tcr; tsr = s .tsr; xer = s .xer; iar = s .iar; halt = s .halt }
-with s Reg.Lr v = record { gpr = s .gpr; cr = s .cr; ctr = s .ctr; dacr = s .dacr; dbcr = s .dbcr; dec = s .dec; edr = s .edr; isr = s .isr; ivpr = s .ivpr; lr = v; msr = s .msr; pir = s .pir; pvr = s .pvr; sprg0 = s .sprg0; srr0 = s .srr0; srr1 = s .srr1; tcr = s .tcr; tsr = s .tsr; xer = s .xer; iar = s .iar; halt = s .halt }
-with s Reg.Msr v = record { gpr = s .gpr; cr = s .cr; ctr = s .ctr; dacr = s .dacr; dbcr = s .dbcr; dec = s .dec; edr = s .edr; isr = s .isr; ivpr = s .ivpr; lr = s .lr; msr = v; pir = s .pir; pvr = s .pvr; sprg0 = s .sprg0; srr0 = s .srr0; srr1 = s .srr1; tcr = s .tcr; tsr = s .tsr; xer = s .xer; iar = s .iar; halt = s .halt }
-with s Reg.Pir v = record { gpr = s .gpr; cr = s .cr; ctr = s .ctr; dacr = s .dacr; dbcr = s .dbcr; dec = s .dec; edr = s .edr; isr = s .isr; ivpr = s .ivpr; lr = s .lr; msr = s .msr; pir = v; pvr = s .pvr; sprg0 = s .sprg0; srr0 = s .srr0; srr1 = s .srr1; tcr = s .tcr; tsr = s .tsr; xer = s .xer; iar = s .iar; halt = s .halt }
-with s Reg.Pvr v = record { gpr = s .gpr; cr = s .cr; ctr = s .ctr; dacr = s .dacr; dbcr = s .dbcr; dec = s .dec; edr = s .edr; isr = s .isr; ivpr = s .ivpr; lr = s .lr; msr = s .msr; pir = s .pir; pvr = v; sprg0 = s .sprg0; srr0 = s .srr0; srr1 = s .srr1; tcr = s .tcr; tsr = s .tsr; xer = s .xer; iar = s .iar; halt = s .halt }
-with s Reg.Sprg0 v = record { gpr = s .gpr; cr = s .cr; ctr = s .ctr; dacr = s .dacr; dbcr = s .dbcr; dec = s .dec; edr = s .edr; isr = s .isr; ivpr = s .ivpr; lr = s .lr; msr = s .msr; pir = s .pir; pvr = s .pvr; sprg0 = v; srr0 = s .srr0; srr1 = s .srr1; tcr = s .tcr; tsr = s .tsr; xer = s .xer; iar = s .iar; halt = s .halt }
-with s Reg.Srr0 v = record { gpr = s .gpr; cr = s .cr; ctr = s .ctr; dacr = s .dacr; dbcr = s .dbcr; dec = s .dec; edr = s .edr; isr = s .isr; ivpr = s .ivpr; lr = s .lr; msr = s .msr; pir = s .pir; pvr = s .pvr; sprg0 = s .sprg0; srr0 = v; srr1 = s .srr1; tcr = s .tcr; tsr = s .tsr; xer = s .xer; iar = s .iar; halt = s .halt }
-with s Reg.Srr1 v = record { gpr = s .gpr; cr = s .cr; ctr = s .ctr; dacr = s .dacr; dbcr = s .dbcr; dec = s .dec; edr = s .edr; isr = s .isr; ivpr = s .ivpr; lr = s .lr; msr = s .msr; pir = s .pir; pvr = s .pvr; sprg0 = s .sprg0; srr0 = s .srr0; srr1 = v; tcr = s .tcr; tsr = s .tsr; xer = s .xer; iar = s .iar; halt = s .halt }
-with s Reg.Tcr v = record { gpr = s .gpr; cr = s .cr; ctr = s .ctr; dacr = s .dacr; dbcr = s .dbcr; dec = s .dec; edr = s .edr; isr = s .isr; ivpr = s .ivpr; lr = s .lr; msr = s .msr; pir = s .pir; pvr = s .pvr; sprg0 = s .sprg0; srr0 = s .srr0; srr1 = s .srr1; tcr = v; tsr = s .tsr; xer = s .xer; iar = s .iar; halt = s .halt }
-with s Reg.Tsr v = record { gpr = s .gpr; cr = s .cr; ctr = s .ctr; dacr = s .dacr; dbcr = s .dbcr; dec = s .dec; edr = s .edr; isr = s .isr; ivpr = s .ivpr; lr = s .lr; msr = s .msr; pir = s .pir; pvr = s .pvr; sprg0 = s .sprg0; srr0 = s .srr0; srr1 = s .srr1; tcr = s .tcr; tsr = v; xer = s .xer; iar = s .iar; halt = s .halt }
-with s Reg.Xer v = record { gpr = s .gpr; cr = s .cr; ctr = s .ctr; dacr = s .dacr; dbcr = s .dbcr; dec = s .dec; edr = s .edr; isr = s .isr; ivpr = s .ivpr; lr = s .lr; msr = s .msr; pir = s .pir; pvr = s .pvr; sprg0 = s .sprg0; srr0 = s .srr0; srr1 = s .srr1; tcr = s .tcr; tsr = s .tsr; xer = v; iar = s .iar; halt = s .halt }
-with s Reg.Iar v = record { gpr = s .gpr; cr = s .cr; ctr = s .ctr; dacr = s .dacr; dbcr = s .dbcr; dec = s .dec; edr = s .edr; isr = s .isr; ivpr = s .ivpr; lr = s .lr; msr = s .msr; pir = s .pir; pvr = s .pvr; sprg0 = s .sprg0; srr0 = s .srr0; srr1 = s .srr1; tcr = s .tcr; tsr = s .tsr; xer = s .xer; iar = v; halt = s .halt }
-with s Reg.Halt v = record { gpr = s .gpr; cr = s .cr; ctr = s .ctr; dacr = s .dacr; dbcr = s .dbcr; dec = s .dec; edr = s .edr; isr = s .isr; ivpr = s .ivpr; lr = s .lr; msr = s .msr; pir = s .pir; pvr = s .pvr; sprg0 = s .sprg0; srr0 = s .srr0; srr1 = s .srr1; tcr = s .tcr; tsr = s .tsr; xer = s .xer; iar = s .iar; halt = v }
+with s q v = holding (s .gpr) (λ r. cond (same q r) v (contentsOf s r))

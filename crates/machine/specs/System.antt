@@ -10,8 +10,8 @@ use Rattle.memory.specs.Access.{pick}
 use Rattle.insn.specs.declared.instr.System.{System}
 use Rattle.insn.specs.declared.instr.SprOp.{SprOp}
 use Rattle.insn.specs.declared.instr.MoveOp.{MoveOp}
-use Rattle.machine.specs.State.{gprOf, with}
-use Rattle.machine.specs.Register.{definedOf, contentsOf}
+use Rattle.machine.specs.State.{gprOf, with, contentsOf}
+use Rattle.machine.specs.Register.{definedOf}
 use Rattle.machine.specs.Interrupt.{interruptedOf, haltedOf}
 use Rattle.machine.specs.Timer.{rises}
 use Rattle.machine.specs.Result.{nextOf, resultOf}

@@ -1,6 +1,7 @@
 // What each register holds and which of its bits are defined.
 ghost use mathlib.Core.Path.{_≡_};
-ghost use Rattle.machine.specs.Register.{definedOf, contentsOf, cleanOf, soundOf, refusalOf, startRefusal};
+ghost use Rattle.machine.specs.State.{contentsOf};
+ghost use Rattle.machine.specs.Register.{definedOf, cleanOf, soundOf, refusalOf, startRefusal};
 use crate::refusal::Refusal;
 use crate::state::Reg;
 use crate::state::State;
