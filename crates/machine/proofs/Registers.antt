@@ -3,12 +3,13 @@ use Prim.Native.Nat.{ℕ, _%_, _<_}
 use native.Mathlib.Omega.{arith}
 use mathlib.Core.Bool.{Bool, true, false, cond}
 use mathlib.Core.List.{List, [], _∷_}
-use mathlib.Core.Path.{_≡_, refl, sym, ap, _∙_}
+use mathlib.Core.Path.{_≡_, refl, sym, ap, _∙_, subst}
 use lib.Dec.{eqb, lit<}
 use lib.ListN.{length, getD, length-set}
 use lib.Seq.{getD-set-same, getD-set-other, ext-getD}
-use borrow.Author.Tests.{eqb-true, eq-eqb, ne-eqb}
+use borrow.Author.Tests.{eqb-true, eqb-false, eq-eqb, ne-eqb}
 use Rattle.word.proofs.Below.{same-at, agree-at}
+use Rattle.word.proofs.Truth.{never}
 use Rattle.insn.specs.Valid.{regOf}
 use Rattle.insn.proofs.Round.{reg-lt}
 use Rattle.machine.specs.State.{placeOf, gprOf, contentsOf, registers, orderOf, same, holding, withGpr, with}
@@ -126,3 +127,22 @@ gprs-are s t l m h = ext-getD 0 (s .gpr) (t .gpr) (l ∙ sym m) at-place
   where
     at-place : (p : ℕ) → p < length (s .gpr) → getD (s .gpr) p 0 ≡ getD (t .gpr) p 0
     at-place p k = rw (number-place p (rw l at k)) at (h (getD numbers p 0) (number-valid p (rw l at k)))
+
+-- so these laws are all that there is to say of a write: what meets them is `with`, or `withGpr`
+pub with-is : (s t : State) (q : Reg) (v : ℕ) → contentsOf t q ≡ v → ((r : Reg) → (q ≡ r → ⊥) → contentsOf t r ≡ contentsOf s r) → t .gpr ≡ s .gpr → t ≡ with s q v
+with-is s t q v there elsewhere gprs = state-is t (with s q v) (gprs ∙ sym (written-gprs s q v)) (λ r. by-one r (same q r) refl)
+  where
+    by-one : (r : Reg) (b : Bool) → same q r ≡ b → contentsOf t r ≡ contentsOf (with s q v) r
+    by-one r true e = subst (λ (p : Reg). contentsOf t p ≡ contentsOf (with s q v) p) (same-one q r e) (there ∙ sym (written-there s q v))
+    by-one r false e =
+        let other : q ≡ r → ⊥ = λ p. never (sym (subst (λ (x : Reg). same q x ≡ true) p (same-self q)) ∙ e) in
+        elsewhere r other ∙ sym (written-elsewhere s q r v other)
+
+pub withGpr-is : (s t : State) (n v : ℕ) → length (s .gpr) ≡ 16 → length (t .gpr) ≡ 16 → regOf n ≡ true → gprOf t n ≡ v
+    → ((m : ℕ) → regOf m ≡ true → (n ≡ m → ⊥) → gprOf t m ≡ gprOf s m) → ((r : Reg) → contentsOf t r ≡ contentsOf s r) → t ≡ withGpr s n v
+withGpr-is s t n v ls lt valid there elsewhere others =
+    state-is t (withGpr s n v) (gprs-are t (withGpr s n v) lt (gpr-count s n v ∙ ls) (λ m w. by-one m w (eqb n m) refl)) (λ r. others r ∙ sym (gpr-others s n v r))
+  where
+    by-one : (m : ℕ) → regOf m ≡ true → (b : Bool) → eqb n m ≡ b → gprOf t m ≡ gprOf (withGpr s n v) m
+    by-one m w true e = subst (λ (p : ℕ). gprOf t p ≡ gprOf (withGpr s n v) p) (eqb-true n m e) (there ∙ sym (gpr-there s n v ls))
+    by-one m w false e = elsewhere m w (eqb-false n m e) ∙ sym (gpr-elsewhere s n m v (places-differ n m valid w (eqb-false n m e)))
