@@ -69,7 +69,7 @@ fn event_pending(tsr: u32, tcr: u32, event: u8) -> bool
         | bit_at(tcr, Bit(4)) & bit_at(tsr, Bit(1))
 }
 
-// No event, none of TCR[WIE], TCR[DIE] and TCR[FIE], and not TCR[DS]: DEC counts, and nothing can be pending.
+// A quiet step, as most are: no event, and none of TCR[WIE], TCR[DIE], TCR[FIE] and TCR[DS]. DEC counts, and nothing can be pending.
 pub fn quiet(tcr: u32, event: u8) -> bool
     ensures { λ r. ⌜ r ≡ (eqb event 0 && not (bitAt tcr 4 || bitAt tcr 5 || bitAt tcr 8 || bitAt tcr 9)) ⌝ }
 {

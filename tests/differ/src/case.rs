@@ -104,7 +104,7 @@ fn draw_state(urn: &mut Urn, start: Start, length: u32) -> [u32; WORDS] {
         urn.value(),
         register(urn, length) & srr0::DEFINED,
         machine_state(urn),
-        urn.some_of(tcr::DEFINED),
+        timer_control(urn),
         if urn.percent(50) { urn.some_of(tsr::DEFINED) } else { 0 },
         urn.some_of(xer::DEFINED),
         if urn.percent(97) { urn.below(length / 4) * 4 } else { urn.value() & !3 },
@@ -170,6 +170,15 @@ fn machine_state(urn: &mut Urn) -> u32 {
         }
     }
     state
+}
+
+/// What makes a step without an event more than a count of DEC.
+pub const ASKS: u32 = tcr::WIE | tcr::DIE | tcr::FIE | tcr::DS;
+
+/// TCR, every other time with none of these set, as firmware mostly has it.
+fn timer_control(urn: &mut Urn) -> u32 {
+    let asked = if urn.percent(50) { ASKS } else { 0 };
+    urn.some_of(tcr::DEFINED & !ASKS | asked)
 }
 
 fn draw_memory(urn: &mut Urn, start: Start, length: usize, words: &[u32; WORDS]) -> Vec<u8> {

@@ -39,9 +39,9 @@ pub fn refer(case: &Case, tally: &mut Tally) -> Reference {
     let mut steps = 0;
     let mut reached = false;
     while steps < case.budget && core.halt == 0 {
-        let (tcr, word) = (core.tcr, word_at(&memory, core.iar));
-        let outcome = core.step(&mut memory, event(case, steps));
-        tally.step(outcome, tcr, word);
+        let (tcr, event, word) = (core.tcr, event(case, steps), word_at(&memory, core.iar));
+        let outcome = core.step(&mut memory, event);
+        tally.step(outcome, tcr, event, word);
         reached |= outcome.reached();
         steps += 1;
     }

@@ -1,5 +1,6 @@
 //! What the cases reached, so that a reader can see it.
 
+use crate::case::ASKS;
 use second::registers::tcr;
 use second::{Asynchronous, Core, Fault, Kind, Outcome, Taken, Word};
 use std::collections::BTreeMap;
@@ -12,6 +13,8 @@ pub struct Tally {
     pub cases: u64,
     pub steps: u64,
     pub reached: u64,
+    /// Steps without an event in which TCR enables nothing and DEC counts.
+    quiet: u64,
     /// Cases in which more memory and a longer run were tried.
     pub grown: u64,
     executed: BTreeMap<&'static str, u64>,
@@ -35,6 +38,7 @@ impl Default for Tally {
             cases: 0,
             steps: 0,
             reached: 0,
+            quiet: 0,
             grown: 0,
             executed: Kind::ALL.iter().map(|kind| (kind.mnemonic(), 0)).collect(),
             waited: 0,
@@ -54,10 +58,11 @@ impl Default for Tally {
 }
 
 impl Tally {
-    /// Counts a step that started with this TCR, at this word if memory has one there.
-    pub fn step(&mut self, outcome: Outcome, tcr_before: u32, word: Option<Word>) {
+    /// Counts a step that started with this TCR and event, at this word if memory has one there.
+    pub fn step(&mut self, outcome: Outcome, tcr_before: u32, event: u8, word: Option<Word>) {
         self.steps += 1;
         self.reached += outcome.reached() as u64;
+        self.quiet += (event == 0 && tcr_before & ASKS == 0) as u64;
         self.timer_settings[(tcr_before & tcr::DEFINED) as usize >> 22] = true;
         match outcome {
             Outcome::AlreadyHalted => {}
@@ -134,6 +139,7 @@ fn how(taken: Taken) -> &'static str {
 impl fmt::Display for Tally {
     fn fmt(&self, f: &mut fmt::Formatter) -> fmt::Result {
         writeln!(f, "{} cases, {} steps, {} of them past memory", self.cases, self.steps, self.reached)?;
+        writeln!(f, "{} steps without an event or anything that TCR asks for", self.quiet)?;
         writeln!(f, "{} cases run again with more memory and a longer run", self.grown)?;
         writeln!(f, "executed:")?;
         for row in self.executed.iter().collect::<Vec<_>>().chunks(6) {
