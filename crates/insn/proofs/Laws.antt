@@ -52,6 +52,7 @@ both P (r ∷ rs) d code h =
     let q = both (P × (code ≡ r .0 → ⊥)) rs d code h in
     (q .0 .0, rw (ne-eqb code (r .0) (q .0 .1)) (q .1))
 
+-- so it returns what the table has for an opcode of no row
 missed : (rs : List Row) (d : Fields → Decoded) (code : ℕ) → Misses (Unit {0}) rs code → find rs d code ≡ d
 missed rs d code h = both (Unit {0}) rs d code h .1
 

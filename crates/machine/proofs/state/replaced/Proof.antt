@@ -1,5 +1,5 @@
 -- `machine::state::replaced` meets its contract: the words chosen so far are those of the list with one replaced. Assumes nothing.
-use Prim.Native.Nat.{ℕ, suc, _+_, _-_, _≤_, _<_}
+use Prim.Native.Nat.{ℕ, _+_, _-_, _≤_, _<_}
 use native.Mathlib.Omega.{arith}
 use mathlib.Core.Bool.{Bool, true, false, cond}
 use mathlib.Core.Path.{_≡_, refl, sym, _∙_}
@@ -32,30 +32,6 @@ Inv-loop at v gpr all₀ k₀ all k = (k ≤ 16) × ((length all ≡ 16) × ((j 
 abbrev μ-loop : tie.MeasureT-loop
 μ-loop at v gpr all₀ k₀ all k = 16 - k
 
-loop-holds : tie.Need-loop-holds Inv-loop μ-loop
-loop-holds c = (search needs, (refl, λ j l. absurd (omega arith)))
-
-mul-select : tie.Need-mul-select Inv-loop μ-loop
-mul-select c = search needs
-
-array-read-select : tie.Need-array-read-select Inv-loop μ-loop
-array-read-select c = search needs
-
-select-requires : tie.Need-select-requires Inv-loop μ-loop
-select-requires c κs = search needs
-
-mul-all : tie.Need-mul-all Inv-loop μ-loop
-mul-all c = search needs
-
-array-write-all : tie.Need-array-write-all Inv-loop μ-loop
-array-write-all c = search needs
-
-add-k : tie.Need-add-k Inv-loop μ-loop
-add-k c = search needs
-
-loop-less : tie.Need-loop-less Inv-loop μ-loop
-loop-less c = search needs
-
 loop-again : tie.Need-loop-again Inv-loop μ-loop
 loop-again c =
     let start = c .before .before .before in
@@ -85,13 +61,13 @@ replaced-spec =
     (tie.spec
     Inv-loop
     μ-loop
-    loop-holds
-    mul-select
-    array-read-select
-    select-requires
-    mul-all
-    array-write-all
-    add-k
-    loop-less
+    (λ c. (search needs, (refl, λ j l. absurd (omega arith))))
+    (λ c. search needs)
+    (λ c. search needs)
+    (λ c κs. search needs)
+    (λ c. search needs)
+    (λ c. search needs)
+    (λ c. search needs)
+    (λ c. search needs)
     loop-again
     returns)
