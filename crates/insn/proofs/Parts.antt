@@ -1,5 +1,5 @@
 -- The parts of a word that was made of parts are those parts, for each layout; and where a layout names every bit, a word is made of its parts. Assumes nothing.
-use mathlib.Core.Path.{_≡_, _∙_, refl, sym, ap, subst}
+use mathlib.Core.Path.{_≡_, _∙_, refl, sym, ap}
 use mathlib.Core.Bool.{Bool, true, false}
 use Prim.Native.Nat.{ℕ, _+_, _-_, _*_, _/_, _%_, _^_, _<_}
 use native.Mathlib.Nat.{add-assoc, mod-lt, mod-eq-of-lt, zero-lt-suc}
