@@ -1,10 +1,22 @@
-/* The bench core from C. Link the archive that ./library writes.
+/* The bench core from C: link the archive that ./library writes. docs/CORE.md says what the core does; this says what a
+ * caller lends and gets.
  *
  * Each function answers what the proved operations answer. All that is decided here is that a state of other than 144 bytes
- * gets refusal 7.
- * A state is 36 big-endian words, 144 bytes: r0 to r10, r13, r28 to r31; CR, CTR, DACR, DBCR, DEC, EDR, ISR, IVPR, LR,
- * MSR, PIR, PVR, SPRG0, SRR0, SRR1, TCR, TSR, XER; IAR; the halt code.
- * Lent buffers must not overlap. An empty buffer may have any pointer. */
+ * gets refusal 7, before every other check.
+ *
+ * - Memory is lent: memory_len bytes at the core's addresses 0 to memory_len - 1, big-endian. Its length is a multiple of 32,
+ *   from 32 to 1,048,576.
+ * - A state is 36 big-endian words, 144 bytes, in the order of enum ppe42_place.
+ * - An event byte belongs to a step and says what comes from outside in it, its values added: 1 external request level,
+ *   2 decrementer input, 4, 8, 16 and 32 timer inputs 0 to 3. Step i of a run, from 0, takes byte i of its list; past the end
+ *   of the list the byte is 0, so an empty list is a run without events. The list may be longer than the budget, and its
+ *   bytes past the budget are checked like the others.
+ * - A halted state (halt code 1 to 5) is accepted, takes no step and stays as it is. Budget 0 takes no step either.
+ * - A refusal counts 0 and leaves every byte as given.
+ *
+ * The functions keep nothing between calls and allocate nothing. They may run side by side on buffers of their own. The
+ * buffers of one call must not overlap. An empty buffer may have any pointer, a null one too. From now on functions are
+ * added to this header, and none that stands in it changes. */
 #ifndef PPE42_H
 #define PPE42_H
 
@@ -17,35 +29,118 @@ extern "C" {
 
 enum {
     PPE42_STATE = 144,   /* bytes of a state */
-    PPE42_TRAILER = 156, /* bytes of a capture after its memory */
-    PPE42_MOST = 1048576 /* most bytes of memory, steps of budget, bytes of events */
+    PPE42_TRAILER = 156, /* bytes of a capture after its memory: the state, and three words */
+    PPE42_BLOCK = 32,    /* a memory's length is a multiple of this, and no less */
+    PPE42_MOST = 1048576 /* most bytes of memory, steps of a budget, bytes of an event list */
 };
 
-/* Refusals: 1 memory size, 2 IAR, 3 reserved bit or halt code, 4 budget, 5 events, 7 no capture (or a state that is
- * not 144 bytes), 8 output too short. */
-static inline uint32_t ppe42_refusal(uint64_t answer) { return (uint32_t)(answer >> 32); }
+/* The words of a state in their order. Behind a register are its defined bits, where it has reserved ones; a state with a
+ * reserved bit set is refused with 3. */
+enum ppe42_place {
+    PPE42_R0,
+    PPE42_R1,
+    PPE42_R2,
+    PPE42_R3,
+    PPE42_R4,
+    PPE42_R5,
+    PPE42_R6,
+    PPE42_R7,
+    PPE42_R8,
+    PPE42_R9,
+    PPE42_R10,
+    PPE42_R13,
+    PPE42_R28,
+    PPE42_R29,
+    PPE42_R30,
+    PPE42_R31,
+    PPE42_CR, /* F0000000 */
+    PPE42_CTR,
+    PPE42_DACR,
+    PPE42_DBCR, /* 318C0000 */
+    PPE42_DEC,
+    PPE42_EDR,
+    PPE42_ISR,  /* 0000F4CF */
+    PPE42_IVPR, /* FFFFFE00 */
+    PPE42_LR,
+    PPE42_MSR, /* 7FFF9DFF */
+    PPE42_PIR, /* 0000FFFF */
+    PPE42_PVR,
+    PPE42_SPRG0,
+    PPE42_SRR0, /* FFFFFFFC */
+    PPE42_SRR1, /* 7FFF9DFF */
+    PPE42_TCR,  /* FFC00000 */
+    PPE42_TSR,  /* FC000000 */
+    PPE42_XER,  /* E0000000 */
+    PPE42_IAR,  /* a multiple of 4, or refusal 2 */
+    PPE42_HALT, /* enum ppe42_halt; over 5 is refusal 3 */
+    PPE42_WORDS
+};
+
+/* Why a core halted. */
+enum ppe42_halt {
+    PPE42_NOT_HALTED = 0,
+    PPE42_HALT_MACHINE_CHECK = 1, /* a fault with MSR[UIE] and MSR[ME] zero */
+    PPE42_HALT_DEBUG = 2,         /* DBCR[RST] written 11 */
+    PPE42_HALT_TRAP = 3,          /* a trap with DBCR[TRAP] set */
+    PPE42_HALT_WATCHDOG = 4,      /* the watchdog's halt */
+    PPE42_HALT_RESET = 5          /* a reset asked for by DBCR[RST] or the watchdog; the bench does not reset */
+};
+
+/* Why input was refused. A run checks 7 (the state's length), 1, 2, 3, 4, 5 and a step 7, 1, 2, 3, 5; reading a capture
+ * checks 7, 1, 2, 3 and writing one 7, 1, 2, 3, 8. The first that applies is given. Number 6 is the instruction writer's,
+ * which ppe42_rewrite never meets. */
+enum ppe42_refused {
+    PPE42_ACCEPTED = 0,
+    PPE42_REFUSED_MEMORY = 1,   /* memory of 0 bytes, of no multiple of 32, or over 1,048,576 */
+    PPE42_REFUSED_IAR = 2,      /* IAR is no multiple of 4 */
+    PPE42_REFUSED_RESERVED = 3, /* a reserved register bit is set, or the halt code is over 5 */
+    PPE42_REFUSED_BUDGET = 4,   /* a budget over 1,048,576 */
+    PPE42_REFUSED_EVENTS = 5,   /* over 1,048,576 event bytes, or one of 64 or more */
+    PPE42_REFUSED_CAPTURE = 7,  /* no capture: under 188 bytes or a wrong trailer; or a state that is not 144 bytes */
+    PPE42_REFUSED_OUTPUT = 8    /* an output shorter than memory_len + 156 */
+};
+
+/* An answer is the refusal times 2^32 plus a count, which is 0 where there is a refusal; ppe42_run_reach may add 2^63. */
+static inline uint32_t ppe42_refusal(uint64_t answer) { return (uint32_t)(answer >> 32) & 0x7FFFFFFF; }
 static inline uint32_t ppe42_count(uint64_t answer) { return (uint32_t)answer; }
+static inline int ppe42_reached(uint64_t answer) { return (int)(answer >> 63); }
+
+/* A word of a state, read and written. */
+static inline uint32_t ppe42_get(const uint8_t *state, enum ppe42_place place) {
+    const uint8_t *at = state + 4 * place;
+    return (uint32_t)at[0] << 24 | (uint32_t)at[1] << 16 | (uint32_t)at[2] << 8 | at[3];
+}
+static inline void ppe42_put(uint8_t *state, enum ppe42_place place, uint32_t word) {
+    uint8_t *at = state + 4 * place;
+    for (int byte = 0; byte < 4; byte++) at[byte] = (uint8_t)(word >> (24 - 8 * byte));
+}
+
+/* A run: state and memory change in place. It ends at the step that halts, which counts, or when the budget is used; the
+ * count is of steps taken. */
+uint64_t ppe42_run(uint8_t *state, size_t state_len, uint8_t *memory, size_t memory_len, const uint8_t *events,
+                   size_t events_len, uint32_t budget);
+
+/* The same run with the same answer, plus 2^63 if it reached past its memory: a fetch, a dcbz block, or a data access that
+ * is no alignment interrupt fell outside. If it did not, more memory gives the same run. It is slower than ppe42_run. */
+uint64_t ppe42_run_reach(uint8_t *state, size_t state_len, uint8_t *memory, size_t memory_len, const uint8_t *events,
+                         size_t events_len, uint32_t budget);
+
+/* One step with its event byte: a run of one. The count is 1, or 0 for a halted state. */
+uint64_t ppe42_step(uint8_t *state, size_t state_len, uint8_t *memory, size_t memory_len, uint8_t event);
+
+/* Whether these bytes are a capture that a run accepts: memory, state, then the words 156, the memory's length and 1. The
+ * count is the length of its memory, the first bytes of the file; the state is the 144 after them. */
+uint64_t ppe42_capture_check(const uint8_t *file, size_t len);
+
+/* Writes a capture into the first memory_len + 156 bytes of out and no others. The count is of bytes written. */
+uint64_t ppe42_capture_write(const uint8_t *state, size_t state_len, const uint8_t *memory, size_t memory_len,
+                             uint8_t *out, size_t out_len);
 
 /* 1 if the word is an instruction, 0 if it is illegal. */
 uint32_t ppe42_legal(uint32_t word);
 
 /* 2^32 plus the word that reading and then writing gives, or 0 if the word is illegal. */
 uint64_t ppe42_rewrite(uint32_t word);
-
-/* A run: state and memory change in place. The answer is the refusal above and the steps taken below; a refusal leaves
- * every byte as given. */
-uint64_t ppe42_run(uint8_t *state, size_t state_len, uint8_t *memory, size_t memory_len, const uint8_t *events,
-                   size_t events_len, uint32_t budget);
-
-/* One step with its event byte: 1 external level, 2 decrementer input, 4, 8, 16 and 32 timer inputs 0 to 3. */
-uint64_t ppe42_step(uint8_t *state, size_t state_len, uint8_t *memory, size_t memory_len, uint8_t event);
-
-/* The refusal that reading this capture gives, or 0. Its memory is its first len - 156 bytes, its state the 144 after. */
-uint32_t ppe42_capture_check(const uint8_t *file, size_t len);
-
-/* Writes a capture into the first memory_len + 156 bytes of out. The answer is the refusal above and the bytes below. */
-uint64_t ppe42_capture_write(const uint8_t *state, size_t state_len, const uint8_t *memory, size_t memory_len,
-                             uint8_t *out, size_t out_len);
 
 #ifdef __cplusplus
 }

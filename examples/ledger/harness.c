@@ -1,38 +1,10 @@
 // Runs the ledger's capture on the core, then once more with the old bench's fault, and prints what each run filed.
+#include "../capture.h"
 #include "ledger.h"
-#include "ppe42.h"
-#include <stdio.h>
-#include <stdlib.h>
-#include <string.h>
 
-enum { BUDGET = 1000000, IAR = 34, HALT = 35, TRAPPED = 3 };
-
-static uint32_t word_at(const uint8_t *at) {
-    return (uint32_t)at[0] << 24 | (uint32_t)at[1] << 16 | (uint32_t)at[2] << 8 | at[3];
-}
-
-static void put_word(uint8_t *at, uint32_t word) {
-    for (int byte = 0; byte < 4; byte++)
-        at[byte] = word >> (24 - 8 * byte);
-}
-
-static void refuse(uint32_t number) {
-    printf("refused %u\n", number);
-    exit(1);
-}
-
-// Runs a capture in place, to the trap that ends the firmware.
-static void run(uint8_t *capture, size_t memory_length) {
-    uint8_t *state = capture + memory_length;
-    uint64_t answer = ppe42_run(state, PPE42_STATE, capture, memory_length, NULL, 0, BUDGET);
-    if (ppe42_refusal(answer))
-        refuse(ppe42_refusal(answer));
-    uint32_t halt = word_at(state + 4 * HALT);
-    if (halt != TRAPPED) {
-        printf("steps %u halt %u iar %08X\n", ppe42_count(answer), halt, word_at(state + 4 * IAR));
-        exit(1);
-    }
-}
+// a word of memory is read and written like the first of a state
+static uint32_t word_at(const uint8_t *at) { return ppe42_get(at, PPE42_R0); }
+static void put_word(uint8_t *at, uint32_t word) { ppe42_put(at, PPE42_R0, word); }
 
 // The old bench's fault, put into the text: each extsh becomes the rlwinm that leaves the halfword positive.
 static unsigned put_fault(uint8_t *text, size_t length) {
@@ -53,33 +25,27 @@ static void print_batches(const uint8_t *ledger) {
 }
 
 int main(int argc, char **argv) {
-    static uint8_t core[PPE42_MOST + PPE42_TRAILER], old[sizeof core];
-    FILE *file = argc == 4 ? fopen(argv[1], "rb") : NULL;
-    if (!file) {
-        fprintf(stderr, "usage: harness CAPTURE LEDGER TEXT_END; the last two are addresses\n");
+    static uint8_t core[CAPTURE_ROOM], old[CAPTURE_ROOM];
+    if (argc != 4) {
+        fprintf(stderr, "harness: not three arguments; write harness CAPTURE LEDGER TEXT_END, the last two as addresses\n");
         return 2;
     }
-    size_t length = fread(core, 1, sizeof core, file);
-    fclose(file);
-    uint32_t refusal = ppe42_capture_check(core, length);
-    if (refusal)
-        refuse(refusal);
-    size_t memory_length = length - PPE42_TRAILER;
+    size_t length = read_capture("harness", argv[1], core);
     size_t ledger = strtoul(argv[2], NULL, 0), text_end = strtoul(argv[3], NULL, 0);
-    if (ledger + sizeof(struct ledger) > memory_length || text_end > memory_length) {
-        fprintf(stderr, "harness: an address outside the capture's memory\n");
+    if (ledger + sizeof(struct ledger) > length || text_end > length) {
+        fprintf(stderr, "harness: an address outside the capture's memory; take both from the symbols of its build\n");
         return 2;
     }
 
-    memcpy(old, core, length);
+    memcpy(old, core, sizeof old);
     if (put_fault(old, text_end) == 0) {
-        fprintf(stderr, "harness: no extsh in the text\n");
+        fprintf(stderr, "harness: no extsh in the text, so no fault to put there; compile the ledger with ./flags\n");
         return 1;
     }
-    run(core, memory_length);
-    run(old, memory_length);
+    run_to_trap("harness", argv[1], core, length, NULL, 0);
+    run_to_trap("harness", argv[1], old, length, NULL, 0);
 
-    printf("halt %d, counter %04X\n", TRAPPED, word_at(core + ledger) >> 16);
+    printf("halt %d, counter %04X\n", PPE42_HALT_TRAP, word_at(core + ledger) >> 16);
     printf("filed by the core ");
     print_batches(core + ledger);
     printf("\nby the old bench  ");

@@ -1,5 +1,5 @@
 /* Captures good and bad, each with the number that the scope gives it: reading by ppe42_capture_check, writing by
- * ppe42_capture_write. Expected numbers come from the refusal table alone. */
+ * ppe42_capture_write. Expected refusals come from the refusal table alone. */
 #include "ppe42.h"
 #include <stdio.h>
 #include <string.h>
@@ -7,10 +7,6 @@
 static uint8_t file[PPE42_MOST + 32 + PPE42_TRAILER + 8];
 static uint8_t copy[sizeof file];
 static unsigned passed, failed;
-
-static void put(uint8_t *p, uint32_t w) {
-    p[0] = (uint8_t)(w >> 24), p[1] = (uint8_t)(w >> 16), p[2] = (uint8_t)(w >> 8), p[3] = (uint8_t)w;
-}
 
 static void check(const char *what, uint64_t found, uint64_t wanted) {
     if (found == wanted) {
@@ -21,38 +17,45 @@ static void check(const char *what, uint64_t found, uint64_t wanted) {
     printf("%s: wanted %llX, found %llX\n", what, (unsigned long long)wanted, (unsigned long long)found);
 }
 
+static uint64_t refused(enum ppe42_refused refusal) { return (uint64_t)refusal << 32; }
+
+/* Reads the first len bytes of the file. Accepted, they have all but the trailer as their memory; refused, none. */
+static void reads(const char *what, size_t len, enum ppe42_refused refusal) {
+    check(what, ppe42_capture_check(file, len), refusal ? refused(refusal) : len - PPE42_TRAILER);
+}
+
+/* Word i of the three that follow the state, behind m bytes of memory. */
+static void put_last(size_t m, int i, uint32_t word) { ppe42_put(file + m + PPE42_STATE, i, word); }
+
 /* A capture of zeros with m bytes of memory; its length. */
 static size_t blank(size_t m) {
     memset(file, 0, sizeof file);
-    put(file + m + 144, 156);
-    put(file + m + 148, (uint32_t)m);
-    put(file + m + 152, 1);
+    put_last(m, 0, PPE42_TRAILER);
+    put_last(m, 1, (uint32_t)m);
+    put_last(m, 2, 1);
     return m + PPE42_TRAILER;
 }
 
-/* The state's 36 words: which bits of each are defined (8.10); IAR goes by its last two bits, the halt code by its range. */
+/* The registers with reserved bits: which bits of each are defined (8.10); IAR goes by its last two. */
 static const struct {
     const char *name;
     uint32_t defined;
-} WORDS[36] = {{"r0", ~0u},          {"r1", ~0u},   {"r2", ~0u},           {"r3", ~0u},          {"r4", ~0u},
-               {"r5", ~0u},          {"r6", ~0u},   {"r7", ~0u},           {"r8", ~0u},          {"r9", ~0u},
-               {"r10", ~0u},         {"r13", ~0u},  {"r28", ~0u},          {"r29", ~0u},         {"r30", ~0u},
-               {"r31", ~0u},         {"CR", 0xF0000000}, {"CTR", ~0u},     {"DACR", ~0u},        {"DBCR", 0x318C0000},
-               {"DEC", ~0u},         {"EDR", ~0u},  {"ISR", 0x0000F4CF},   {"IVPR", 0xFFFFFE00}, {"LR", ~0u},
-               {"MSR", 0x7FFF9DFF},  {"PIR", 0x0000FFFF}, {"PVR", ~0u},    {"SPRG0", ~0u},       {"SRR0", 0xFFFFFFFC},
-               {"SRR1", 0x7FFF9DFF}, {"TCR", 0xFFC00000}, {"TSR", 0xFC000000}, {"XER", 0xE0000000}, {"IAR", 0xFFFFFFFC},
-               {"halt", ~0u}};
+} REGISTERS[PPE42_WORDS] = {
+    [PPE42_CR] = {"CR", 0xF0000000},     [PPE42_DBCR] = {"DBCR", 0x318C0000}, [PPE42_ISR] = {"ISR", 0x0000F4CF},
+    [PPE42_IVPR] = {"IVPR", 0xFFFFFE00}, [PPE42_MSR] = {"MSR", 0x7FFF9DFF},   [PPE42_PIR] = {"PIR", 0x0000FFFF},
+    [PPE42_SRR0] = {"SRR0", 0xFFFFFFFC}, [PPE42_SRR1] = {"SRR1", 0x7FFF9DFF}, [PPE42_TCR] = {"TCR", 0xFFC00000},
+    [PPE42_TSR] = {"TSR", 0xFC000000},   [PPE42_XER] = {"XER", 0xE0000000},   [PPE42_IAR] = {"IAR", 0xFFFFFFFC},
+};
 
 static void lengths(void) {
-    check("188 bytes", ppe42_capture_check(file, blank(32)), 0);
-    check("187 bytes", ppe42_capture_check(file, blank(32) - 1), 7);
-    check("no bytes", ppe42_capture_check(file, 0), 7);
-    check("M 1,048,576", ppe42_capture_check(file, blank(PPE42_MOST)), 0);
-    check("M 1,048,608", ppe42_capture_check(file, blank(PPE42_MOST + 32)), 1);
-    check("M 33", ppe42_capture_check(file, blank(33)), 1);
-    check("M 0 is too short", ppe42_capture_check(file, blank(0)), 7);
-    check("truncated by a word", ppe42_capture_check(file, blank(64) - 4), 7);
-    check("a byte too many", ppe42_capture_check(file, blank(64) + 1), 7);
+    reads("187 bytes", blank(32) - 1, PPE42_REFUSED_CAPTURE);
+    reads("no bytes", 0, PPE42_REFUSED_CAPTURE);
+    reads("M 0 is too short", blank(0), PPE42_REFUSED_CAPTURE);
+    for (size_t m = 32; m <= 128; m++) reads("M 32 to 128", blank(m), m % 32 ? PPE42_REFUSED_MEMORY : PPE42_ACCEPTED);
+    reads("M 1,048,576", blank(PPE42_MOST), PPE42_ACCEPTED);
+    reads("M 1,048,608", blank(PPE42_MOST + 32), PPE42_REFUSED_MEMORY);
+    reads("truncated by a word", blank(64) - 4, PPE42_REFUSED_CAPTURE);
+    reads("a byte too many", blank(64) + 1, PPE42_REFUSED_CAPTURE);
 }
 
 static void trailers(void) {
@@ -60,50 +63,58 @@ static void trailers(void) {
     for (int i = 0; i < 3; i++)
         for (int bit = 0; bit < 32; bit++) {
             size_t len = blank(64);
-            put(file + 64 + 144 + 4 * i, right[i] ^ 1u << bit);
-            check("a trailer bit turned", ppe42_capture_check(file, len), 7);
+            put_last(64, i, right[i] ^ 1u << bit);
+            reads("a trailer bit turned", len, PPE42_REFUSED_CAPTURE);
         }
 }
 
+/* The refusal of a state that is 0 but for one bit of one word, which is not the halt code. */
+static enum ppe42_refused of_bit(int place, uint32_t bit) {
+    if (!REGISTERS[place].name || bit & REGISTERS[place].defined) return PPE42_ACCEPTED;
+    return place == PPE42_IAR ? PPE42_REFUSED_IAR : PPE42_REFUSED_RESERVED;
+}
+
 static void reserved(void) {
-    for (int i = 0; i < 35; i++)
-        for (int bit = 0; bit < 32; bit++) {
+    for (int place = 0; place < PPE42_HALT; place++)
+        for (uint32_t bit = 1; bit; bit <<= 1) {
             size_t len = blank(32);
-            uint32_t word = 1u << bit;
-            put(file + 32 + 4 * i, word);
-            uint32_t wanted = word & WORDS[i].defined ? 0 : i == 34 ? 2 : 3;
-            check(WORDS[i].name, ppe42_capture_check(file, len), wanted);
+            ppe42_put(file + 32, place, bit);
+            reads(REGISTERS[place].name ? REGISTERS[place].name : "a whole register", len, of_bit(place, bit));
         }
-    for (uint32_t halt = 0; halt < 8; halt++) {
+    for (uint32_t halt = PPE42_NOT_HALTED; halt < 8; halt++) {
         size_t len = blank(32);
-        put(file + 32 + 4 * 35, halt);
-        check("halt code", ppe42_capture_check(file, len), halt > 5 ? 3 : 0);
+        ppe42_put(file + 32, PPE42_HALT, halt);
+        reads("halt code", len, halt > PPE42_HALT_RESET ? PPE42_REFUSED_RESERVED : PPE42_ACCEPTED);
     }
     size_t len = blank(32);
-    put(file + 32 + 4 * 34, 2), put(file + 32 + 4 * 33, 1);
-    check("2 before 3", ppe42_capture_check(file, len), 2);
+    ppe42_put(file + 32, PPE42_IAR, 2), ppe42_put(file + 32, PPE42_XER, 1);
+    reads("2 before 3", len, PPE42_REFUSED_IAR);
     len = blank(48);
-    put(file + 48 + 4 * 34, 2);
-    check("1 before 2", ppe42_capture_check(file, len), 1);
+    ppe42_put(file + 48, PPE42_IAR, 2);
+    reads("1 before 2", len, PPE42_REFUSED_MEMORY);
 }
 
 static void writing(void) {
     size_t len = blank(96);
+    uint8_t *state = file + 96;
     for (size_t i = 0; i < 96; i++) file[i] = (uint8_t)(i * 7 + 1);
-    for (int i = 0; i < 16; i++) put(file + 96 + 4 * i, 0x01020304u * (uint32_t)(i + 1));
+    for (int i = PPE42_R0; i <= PPE42_R31; i++) ppe42_put(state, i, 0x01020304u * (uint32_t)(i + 1));
     memset(copy, 0xA5, sizeof copy);
-    check("written", ppe42_capture_write(file + 96, 144, file, 96, copy, len + 3), len);
+    check("written", ppe42_capture_write(state, PPE42_STATE, file, 96, copy, len + 3), len);
     check("the same bytes", (uint64_t)memcmp(copy, file, len), 0);
     check("no byte more", copy[len] == 0xA5 && copy[len + 1] == 0xA5 && copy[len + 2] == 0xA5, 1);
+    check("read back", ppe42_capture_check(copy, len), 96);
     memset(copy, 0xA5, sizeof copy);
-    check("a byte too short", ppe42_capture_write(file + 96, 144, file, 96, copy, len - 1), 8ull << 32);
+    check("a byte too short", ppe42_capture_write(state, PPE42_STATE, file, 96, copy, len - 1),
+          refused(PPE42_REFUSED_OUTPUT));
     check("nothing stored", copy[0] == 0xA5 && copy[len - 2] == 0xA5, 1);
-    check("143 bytes of state", ppe42_capture_write(file + 96, 143, file, 96, copy, len), 7ull << 32);
-    check("M 95", ppe42_capture_write(file + 96, 144, file, 95, copy, len), 1ull << 32);
-    put(file + 96 + 4 * 34, 1);
-    check("IAR 1", ppe42_capture_write(file + 96, 144, file, 96, copy, len), 2ull << 32);
-    put(file + 96 + 4 * 34, 0), put(file + 96 + 4 * 33, 1);
-    check("XER 1", ppe42_capture_write(file + 96, 144, file, 96, copy, len), 3ull << 32);
+    check("143 bytes of state", ppe42_capture_write(state, PPE42_STATE - 1, file, 96, copy, len),
+          refused(PPE42_REFUSED_CAPTURE));
+    check("M 95", ppe42_capture_write(state, PPE42_STATE, file, 95, copy, len), refused(PPE42_REFUSED_MEMORY));
+    ppe42_put(state, PPE42_IAR, 1);
+    check("IAR 1", ppe42_capture_write(state, PPE42_STATE, file, 96, copy, len), refused(PPE42_REFUSED_IAR));
+    ppe42_put(state, PPE42_IAR, 0), ppe42_put(state, PPE42_XER, 1);
+    check("XER 1", ppe42_capture_write(state, PPE42_STATE, file, 96, copy, len), refused(PPE42_REFUSED_RESERVED));
 }
 
 int main(void) {

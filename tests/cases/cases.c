@@ -9,20 +9,24 @@
 
 #include "ppe42.h"
 
-enum { WORDS = PPE42_STATE / 4, DEC = 20, EDR = 21, TCR = 31, IAR = 34, GUARD = 64, FILL = 0xEE, EDGE = 0x5A };
+enum { GUARD = 64, FILL = 0xEE, EDGE = 0x5A };
 
 #define TCR_DS 0x00400000u
 
-// The words of a state in their order, and what a case starts from where it sets nothing.
-static const struct { const char *name; uint32_t start; } registers[WORDS] = {
-    {"r0", 0x99990000},   {"r1", 0x99990001},   {"r2", 0x99990002},   {"r3", 0x99990003},    {"r4", 0x99990004},
-    {"r5", 0x99990005},   {"r6", 0x99990006},   {"r7", 0x99990007},   {"r8", 0x99990008},    {"r9", 0x99990009},
-    {"r10", 0x99990010},  {"r13", 0x99990013},  {"r28", 0x99990028},  {"r29", 0x99990029},   {"r30", 0x99990030},
-    {"r31", 0x99990031},  {"CR", 0},            {"CTR", 0x9999C000},  {"DACR", 0x9999DAC0},  {"DBCR", 0},
-    {"DEC", 0x00100000},  {"EDR", 0x9999ED00},  {"ISR", 0},           {"IVPR", 0},           {"LR", 0x99991000},
-    {"MSR", 0},           {"PIR", 0x00000099},  {"PVR", 0x42000099},  {"SPRG0", 0x99992720}, {"SRR0", 0x99990260},
-    {"SRR1", 0x19990000}, {"TCR", 0},           {"TSR", 0},           {"XER", 0},            {"IAR", 0},
-    {"halt", 0},
+// The words of a state, and what a case starts from where it sets nothing.
+static const struct { const char *name; uint32_t start; } registers[PPE42_WORDS] = {
+    [PPE42_R0] = {"r0", 0x99990000},       [PPE42_R1] = {"r1", 0x99990001},       [PPE42_R2] = {"r2", 0x99990002},
+    [PPE42_R3] = {"r3", 0x99990003},       [PPE42_R4] = {"r4", 0x99990004},       [PPE42_R5] = {"r5", 0x99990005},
+    [PPE42_R6] = {"r6", 0x99990006},       [PPE42_R7] = {"r7", 0x99990007},       [PPE42_R8] = {"r8", 0x99990008},
+    [PPE42_R9] = {"r9", 0x99990009},       [PPE42_R10] = {"r10", 0x99990010},     [PPE42_R13] = {"r13", 0x99990013},
+    [PPE42_R28] = {"r28", 0x99990028},     [PPE42_R29] = {"r29", 0x99990029},     [PPE42_R30] = {"r30", 0x99990030},
+    [PPE42_R31] = {"r31", 0x99990031},     [PPE42_CR] = {"CR", 0},                [PPE42_CTR] = {"CTR", 0x9999C000},
+    [PPE42_DACR] = {"DACR", 0x9999DAC0},   [PPE42_DBCR] = {"DBCR", 0},            [PPE42_DEC] = {"DEC", 0x00100000},
+    [PPE42_EDR] = {"EDR", 0x9999ED00},     [PPE42_ISR] = {"ISR", 0},              [PPE42_IVPR] = {"IVPR", 0},
+    [PPE42_LR] = {"LR", 0x99991000},       [PPE42_MSR] = {"MSR", 0},              [PPE42_PIR] = {"PIR", 0x00000099},
+    [PPE42_PVR] = {"PVR", 0x42000099},     [PPE42_SPRG0] = {"SPRG0", 0x99992720}, [PPE42_SRR0] = {"SRR0", 0x99990260},
+    [PPE42_SRR1] = {"SRR1", 0x19990000},   [PPE42_TCR] = {"TCR", 0},              [PPE42_TSR] = {"TSR", 0},
+    [PPE42_XER] = {"XER", 0},              [PPE42_IAR] = {"IAR", 0},              [PPE42_HALT] = {"halt", 0},
 };
 
 struct piece { uint32_t at; unsigned count; uint8_t bytes[32]; };
@@ -33,9 +37,9 @@ struct test {
     unsigned line;
     bool open, ran, wants, tried;
     uint32_t lend, cursor, budget, word;
-    uint32_t start[WORDS], want[WORDS];
-    bool named[WORDS], edr_is_word, steps_named;
-    uint32_t steps, refusal;
+    uint32_t start[PPE42_WORDS], want[PPE42_WORDS];
+    bool named[PPE42_WORDS], edr_is_word, steps_named;
+    uint32_t steps, refusal, reach;
     struct pieces given, wanted;
     uint8_t *events;
     size_t events_len;
@@ -69,14 +73,6 @@ static uint32_t number(const char *text, int base) {
     return (uint32_t)value;
 }
 
-static void put(uint8_t *at, uint32_t word) {
-    for (int i = 0; i < 4; i++) at[i] = (uint8_t)(word >> (24 - 8 * i));
-}
-
-static uint32_t get(const uint8_t *at) {
-    return (uint32_t)at[0] << 24 | (uint32_t)at[1] << 16 | (uint32_t)at[2] << 8 | at[3];
-}
-
 static struct piece *piece_of(struct pieces *pieces, uint32_t at) {
     if (pieces->count == sizeof pieces->piece / sizeof *pieces->piece) malformed("too many", "bytes of memory");
     struct piece *piece = &pieces->piece[pieces->count++];
@@ -86,8 +82,7 @@ static struct piece *piece_of(struct pieces *pieces, uint32_t at) {
 
 static void add_word(struct pieces *pieces, uint32_t at, uint32_t word) {
     struct piece *piece = piece_of(pieces, at);
-    piece->count = 4;
-    put(piece->bytes, word);
+    for (int shift = 24; shift >= 0; shift -= 8) piece->bytes[piece->count++] = (uint8_t)(word >> shift);
 }
 
 static void lay(uint8_t *memory, uint32_t size, const struct pieces *pieces) {
@@ -100,20 +95,20 @@ static void lay(uint8_t *memory, uint32_t size, const struct pieces *pieces) {
 
 static int register_named(const char *name) {
     int index = 0;
-    while (index < WORDS && strcmp(registers[index].name, name)) index++;
-    if (index == WORDS) malformed("no register", name);
+    while (index < PPE42_WORDS && strcmp(registers[index].name, name)) index++;
+    if (index == PPE42_WORDS) malformed("no register", name);
     return index;
 }
 
 static void start_with(struct test *test, const char *name, const char *value) {
     if (!strcmp(name, "word")) {
         test->word = number(value, 16);
-        add_word(&test->given, test->start[IAR], test->word);
+        add_word(&test->given, test->start[PPE42_IAR], test->word);
         return;
     }
     int index = register_named(name);
     test->start[index] = number(value, 16);
-    if (index == IAR) test->cursor = test->start[IAR];
+    if (index == PPE42_IAR) test->cursor = test->start[PPE42_IAR];
 }
 
 static void end_with(struct test *test, const char *name, const char *value) {
@@ -122,10 +117,13 @@ static void end_with(struct test *test, const char *name, const char *value) {
         test->steps_named = true;
     } else if (!strcmp(name, "refusal")) {
         test->refusal = number(value, 10);
+    } else if (!strcmp(name, "reach")) {
+        test->reach = number(value, 10);
+        if (test->reach > 1) malformed("neither 0 nor 1", value);
     } else {
         int index = register_named(name);
         test->named[index] = true;
-        if (index == EDR && !strcmp(value, "word")) test->edr_is_word = true;
+        if (index == PPE42_EDR && !strcmp(value, "word")) test->edr_is_word = true;
         else test->want[index] = number(value, 16);
     }
 }
@@ -142,10 +140,10 @@ static void assign(struct test *test, char *rest, bool text_may_follow,
     }
 }
 
-static void differ(const struct test *test, const char *form, ...) {
+static void differ(const struct test *test, const char *function, const char *form, ...) {
     va_list values;
     va_start(values, form);
-    fprintf(stderr, "%s:%u: %s: ", file, test->line, test->name);
+    fprintf(stderr, "%s:%u: %s: %s: ", file, test->line, test->name, function);
     vfprintf(stderr, form, values);
     fputc('\n', stderr);
     va_end(values);
@@ -153,9 +151,9 @@ static void differ(const struct test *test, const char *form, ...) {
 }
 
 static uint32_t wanted_word(const struct test *test, int index, uint32_t steps) {
-    if (index == EDR && test->edr_is_word) return test->word;
+    if (index == PPE42_EDR && test->edr_is_word) return test->word;
     if (test->named[index]) return test->want[index];
-    if (index == DEC && !(test->start[TCR] & TCR_DS)) return test->start[index] - steps;
+    if (index == PPE42_DEC && !(test->start[PPE42_TCR] & TCR_DS)) return test->start[index] - steps;
     return test->start[index];
 }
 
@@ -165,47 +163,59 @@ static bool edges_kept(const uint8_t *room, size_t size) {
     return true;
 }
 
-// Plays one case and compares all it leaves: refusal, steps, registers, memory and the bytes around what was lent.
-static void check(const struct test *test) {
+typedef uint64_t player(uint8_t *, size_t, uint8_t *, size_t, const uint8_t *, size_t, uint32_t);
+
+// Plays one case by one function and compares its answer and all it leaves: registers, memory, the bytes around both.
+static void check_by(const struct test *test, const char *function, player *play, uint32_t wanted_reach) {
     uint8_t state[GUARD + PPE42_STATE + GUARD];
     size_t room_len = GUARD + (size_t)test->lend + GUARD;
     uint8_t *room = room_for(room_len), *memory = room + GUARD, *expected = room_for(room_len);
-    unsigned before = differences;
     memset(state, EDGE, sizeof state);
     memset(room, EDGE, room_len);
     memset(memory, FILL, test->lend);
     lay(memory, test->lend, &test->given);
     memcpy(expected, memory, test->lend);
     lay(expected, test->lend, &test->wanted);
-    for (int i = 0; i < WORDS; i++) put(state + GUARD + 4 * i, test->start[i]);
+    for (int i = 0; i < PPE42_WORDS; i++) ppe42_put(state + GUARD, i, test->start[i]);
 
-    uint64_t answer = ppe42_run(state + GUARD, PPE42_STATE, memory, test->lend, test->events, test->events_len,
-                                test->budget);
-    uint32_t refusal = ppe42_refusal(answer), steps = ppe42_count(answer);
+    uint64_t answer =
+        play(state + GUARD, PPE42_STATE, memory, test->lend, test->events, test->events_len, test->budget);
+    uint32_t refusal = ppe42_refusal(answer), steps = ppe42_count(answer), reach = (uint32_t)ppe42_reached(answer);
     uint32_t wanted_steps = test->steps_named ? test->steps : test->refusal ? 0 : test->budget;
 
-    if (refusal != test->refusal) differ(test, "refusal wanted %" PRIu32 ", found %" PRIu32, test->refusal, refusal);
-    if (steps != wanted_steps) differ(test, "steps wanted %" PRIu32 ", found %" PRIu32, wanted_steps, steps);
-    for (int i = 0; i < WORDS; i++) {
-        uint32_t wanted = wanted_word(test, i, wanted_steps), found = get(state + GUARD + 4 * i);
+    if (refusal != test->refusal)
+        differ(test, function, "refusal wanted %" PRIu32 ", found %" PRIu32, test->refusal, refusal);
+    if (steps != wanted_steps)
+        differ(test, function, "steps wanted %" PRIu32 ", found %" PRIu32, wanted_steps, steps);
+    if (reach != wanted_reach)
+        differ(test, function, "reach wanted %" PRIu32 ", found %" PRIu32, wanted_reach, reach);
+    for (int i = 0; i < PPE42_WORDS; i++) {
+        uint32_t wanted = wanted_word(test, i, wanted_steps), found = ppe42_get(state + GUARD, i);
         if (found != wanted)
-            differ(test, "%s wanted %08" PRIX32 ", found %08" PRIX32, registers[i].name, wanted, found);
+            differ(test, function, "%s wanted %08" PRIX32 ", found %08" PRIX32, registers[i].name, wanted, found);
     }
     for (uint32_t i = 0; i < test->lend; i++)
         if (memory[i] != expected[i])
-            differ(test, "byte %08" PRIX32 " wanted %02X, found %02X", i, expected[i], memory[i]);
+            differ(test, function, "byte %08" PRIX32 " wanted %02X, found %02X", i, expected[i], memory[i]);
     if (!edges_kept(state, PPE42_STATE) || !edges_kept(room, test->lend))
-        differ(test, "a byte around what was lent has changed");
-    cases++;
-    failures += differences != before;
+        differ(test, function, "a byte around what was lent has changed");
     free(room);
     free(expected);
+}
+
+// One case, by both functions that run; ppe42_run says nothing of a reach.
+static void check(const struct test *test) {
+    unsigned before = differences;
+    check_by(test, "ppe42_run", ppe42_run, 0);
+    check_by(test, "ppe42_run_reach", ppe42_run_reach, test->reach);
+    cases++;
+    failures += differences != before;
 }
 
 static void begin(struct test *test, const char *name) {
     *test = (struct test){.line = line, .open = true, .lend = 512};
     snprintf(test->name, sizeof test->name, "%s", name);
-    for (int i = 0; i < WORDS; i++) test->start[i] = registers[i].start;
+    for (int i = 0; i < PPE42_WORDS; i++) test->start[i] = registers[i].start;
 }
 
 static void finish(struct test *test) {

@@ -1,18 +1,44 @@
--- The count of bytes that a capture takes fits a word. Assumes nothing.
-use Prim.Native.Nat.{ℕ, _+_, _^_, _<_}
+-- The numbers that cross the boundary are small enough for their places. Assumes nothing.
+use Prim.Native.Nat.{ℕ, _+_, _^_, _<_, _≤_}
 use native.Mathlib.Omega.{arith}
 use mathlib.Core.Bool.{Bool, true, false}
 use mathlib.Core.Path.{_≡_, refl}
-use mathlib.Core.List.{List}
-use lib.Dec.{lit<}
-use lib.ListN.{length}
+use mathlib.Core.List.{List, []}
+use lib.Dec.{lit<, lit≤}
+use lib.ListN.{length, take}
+use lib.Seq.{length-take-le}
 use Rattle.memory.specs.Access.{pick}
 use Rattle.memory.proofs.Laws.{sized-bounds}
 use Rattle.machine.specs.Register.{startRefusal}
 use Rattle.machine.proofs.Refusals.{or-accepts, start-accepts}
-use Rattle.machine.specs.Refusal.{acceptsOf}
+use Rattle.machine.specs.Refusal.{numberOf, acceptsOf}
 use Rattle.machine.specs.declared.state.State.{State}
+use Rattle.machine.specs.declared.refusal.Refusal.{Refusal}
+use Rattle.capture.specs.Read.{sizeOf, readRefusal, partOf}
+use Rattle.capture.proofs.Checks.{read-accepts}
 use Rattle.capture.specs.Write.{writeRefusal, writtenOf}
+
+-- a refusal's number leaves the first bit of an answer free
+pub number-small : (r : Refusal) → numberOf r ≤ 8
+number-small Refusal.None = lit≤ tt
+number-small Refusal.Memory = lit≤ tt
+number-small Refusal.Iar = lit≤ tt
+number-small Refusal.Reserved = lit≤ tt
+number-small Refusal.Budget = lit≤ tt
+number-small Refusal.Events = lit≤ tt
+number-small Refusal.Capture = lit≤ tt
+number-small Refusal.Output = lit≤ tt
+
+-- a capture's memory and a whole capture are counted by words
+part-small : (b : Bool) (f : List ℕ) → acceptsOf (readRefusal f) ≡ b → length (pick b (take (sizeOf f) f) []) < 2 ^ 32
+part-small true f e =
+    let h = sized-bounds (sizeOf f) (read-accepts f e .sized) in
+    rw (length-take-le (sizeOf f) f (omega arith)) (omega arith)
+part-small false f e = lit< tt
+
+pub memory-small : (f : List ℕ) → length (partOf f) < 2 ^ 32
+unfolding partOf
+memory-small f = part-small (acceptsOf (readRefusal f)) f refl
 
 written-small : (b : Bool) (s : State) (m n : ℕ) → acceptsOf (writeRefusal s m n) ≡ b → pick b (m + 156) 0 < 2 ^ 32
 unfolding writeRefusal

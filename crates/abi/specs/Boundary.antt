@@ -1,6 +1,6 @@
 -- What crosses the C boundary: a state as 144 lent bytes, and answers as numbers.
 use Prim.Native.Nat.{ℕ, _+_, _*_, _^_}
-use mathlib.Core.Bool.{Bool}
+use mathlib.Core.Bool.{Bool, _&&_}
 use mathlib.Core.List.{List}
 use lib.Dec.{eqb}
 use lib.ListN.{length}
@@ -11,10 +11,10 @@ use Rattle.insn.specs.declared.instr.Decoded.{Decoded}
 use Rattle.machine.specs.Refusal.{numberOf, acceptsOf}
 use Rattle.machine.specs.declared.state.State.{State}
 use Rattle.machine.specs.declared.refusal.Refusal.{Refusal}
-use Rattle.run.specs.Outcome.{runOutcome, runMemory, stepOutcome, stepMemory}
+use Rattle.run.specs.Outcome.{runOutcome, runMemory, runPast, stepOutcome, stepMemory}
 use Rattle.run.specs.declared.outcome.Outcome.{Outcome}
 use Rattle.capture.specs.Words.{wordsAt, wordBytes, stateOf, wordsOf}
-use Rattle.capture.specs.Read.{readOf}
+use Rattle.capture.specs.Read.{readOf, partOf}
 use Rattle.capture.specs.Write.{writtenOf as captureWritten, outOf}
 
 abbrev pub legalOf : Decoded → ℕ
@@ -51,6 +51,10 @@ runState s m ev budget = pick (isState s) (stored s (runOutcome (lentState s) m 
 unfoldable pub runLent : List ℕ → List ℕ → List ℕ → ℕ → List ℕ
 runLent s m ev budget = pick (isState s) (runMemory (lentState s) m ev budget) m
 
+-- the same answer, and 2^63 if the run reached past its memory
+unfoldable pub reachAnswer : List ℕ → List ℕ → List ℕ → ℕ → ℕ
+reachAnswer s m ev budget = runAnswer s m ev budget + pick (isState s && runPast (lentState s) m ev budget) (2 ^ 63) 0
+
 unfoldable pub stepAnswer : List ℕ → List ℕ → ℕ → ℕ
 stepAnswer s m e =
     let o = stepOutcome (lentState s) m e in
@@ -62,8 +66,9 @@ stepState s m e = pick (isState s) (stored s (stepOutcome (lentState s) m e)) s
 unfoldable pub stepLent : List ℕ → List ℕ → ℕ → List ℕ
 stepLent s m e = pick (isState s) (stepMemory (lentState s) m e) m
 
-unfoldable pub checkOf : List ℕ → ℕ
-checkOf file = numberOf (readOf file .refusal)
+-- M is the length of the memory part, which is empty where the capture is refused
+unfoldable pub checkAnswer : List ℕ → ℕ
+checkAnswer file = answerOf (readOf file .refusal) (length (partOf file))
 
 unfoldable pub writeAnswer : List ℕ → List ℕ → List ℕ → ℕ
 writeAnswer s m out =

@@ -1,9 +1,10 @@
 // The C boundary: exported functions on numbers and lent bytes, declared in include/ppe42.h. All that is
 // decided here is that a state of other than 144 bytes gets refusal 7 (docs/DECISIONS.md D31).
 ghost use mathlib.Core.Path.{_≡_};
+ghost use Prim.Native.Nat.{_<_, _^_};
 ghost use lib.ListN.{length};
 ghost use Rattle.insn.specs.Read.{decodeOf};
-ghost use Rattle.abi.specs.Boundary.{legalOf, rewriteOf, answerOf, stored, runAnswer, runState, runLent, stepAnswer, stepState, stepLent, checkOf, writeAnswer, writeOut};
+ghost use Rattle.abi.specs.Boundary.{legalOf, rewriteOf, answerOf, stored, runAnswer, runState, runLent, reachAnswer, stepAnswer, stepState, stepLent, checkAnswer, writeAnswer, writeOut};
 use insn::instr::Decoded;
 use machine::refusal::Refusal;
 use machine::refusal::accepts;
@@ -13,6 +14,7 @@ use run::outcome::Outcome;
 // A refusal's number times 2^32, and a count.
 fn answer(refusal: Refusal, count: u32) -> u64
     ensures { λ r. ⌜ r ≡ answerOf refusal count ⌝ }
+    ensures small { λ r. ⌜ r < 2 ^ 63 ⌝ }
 {
     number(refusal) as u64 * 0x1_0000_0000 + count as u64
 }
@@ -21,6 +23,7 @@ fn answer(refusal: Refusal, count: u32) -> u64
 fn settle(state: &mut [u8], outcome: Outcome) -> u64
     requires { ⌜ length (now state) ≡ 144 ⌝ }
     ensures { λ r. ⌜ (r ≡ answerOf (outcome .refusal) (outcome .steps)) × (now (state .exit) ≡ stored (now (state .entry)) outcome) ⌝ }
+    ensures small { λ r. ⌜ r < 2 ^ 63 ⌝ }
 {
     let refusal = outcome.refusal;
     let next = outcome.state;
@@ -68,6 +71,29 @@ pub extern "C" fn ppe42_run(state: &mut [u8], memory: &mut [u8], events: &[u8], 
     settle(state, run::run::run(start, memory, events, budget))
 }
 
+// The same run, and 2^63 if it reached past its memory.
+#[no_mangle]
+pub extern "C" fn ppe42_run_reach(
+    state: &mut [u8],
+    memory: &mut [u8],
+    events: &[u8],
+    budget: u32,
+) -> u64
+    ensures { λ r. ⌜ (r ≡ reachAnswer (now (state .entry)) (now (memory .entry)) (now (events .entry)) budget) × ((now (state .exit) ≡ runState (now (state .entry)) (now (memory .entry)) (now (events .entry)) budget) × (now (memory .exit) ≡ runLent (now (state .entry)) (now (memory .entry)) (now (events .entry)) budget)) ⌝ }
+{
+    if state.len() != 144 {
+        return answer(Refusal::Capture, 0);
+    }
+    let start = capture::words::state_at(&state[..], 0);
+    let reached = run::reach::run_reach(start, memory, events, budget);
+    let outcome = reached.outcome;
+    let given = settle(state, outcome);
+    if reached.past {
+        return given + 0x8000_0000_0000_0000;
+    }
+    given
+}
+
 // One step, with its event byte.
 #[no_mangle]
 pub extern "C" fn ppe42_step(state: &mut [u8], memory: &mut [u8], event: u8) -> u64
@@ -80,13 +106,14 @@ pub extern "C" fn ppe42_step(state: &mut [u8], memory: &mut [u8], event: u8) -> 
     settle(state, run::run::step(start, memory, event))
 }
 
-// The refusal that reading a capture gives, or 0.
+// The refusal that reading a capture gives, or the length of its memory.
 #[no_mangle]
-pub extern "C" fn ppe42_capture_check(file: &[u8]) -> u32
-    ensures { λ r. ⌜ r ≡ checkOf (now (file .entry)) ⌝ }
+pub extern "C" fn ppe42_capture_check(file: &[u8]) -> u64
+    ensures { λ r. ⌜ r ≡ checkAnswer (now (file .entry)) ⌝ }
 {
     let refusal = capture::read::state_of(file).refusal;
-    number(refusal)
+    let size = capture::read::memory_part(file).len();
+    answer(refusal, size as u32)
 }
 
 // A capture written into the first M + 156 bytes of the output.

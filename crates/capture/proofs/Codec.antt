@@ -12,12 +12,8 @@ use Rattle.memory.specs.Load.{valueAt}
 use Rattle.memory.specs.Store.{bytesOf}
 use Rattle.machine.specs.State.{orderOf, holding}
 use Rattle.machine.specs.declared.state.State.{State}
-use Rattle.capture.specs.Words.{wordsAt, wordBytes, othersOf, wordsOf, stateOf}
+use Rattle.capture.specs.Words.{Below, wordsAt, wordBytes, othersOf, wordsOf, stateOf}
 use Rattle.capture.proofs.Laws.{elements-are}
-
--- every number of a list is below n
-abbrev pub Below : ℕ → List ℕ → Type 0
-Below n xs = (k : ℕ) → getD xs k 0 < n
 
 -- what is read behind a part is read in what follows it
 value-after : (xs ys : List ℕ) (k : ℕ) → valueAt Width.Word (xs ++ ys) (length xs + k) ≡ valueAt Width.Word ys k

@@ -15,13 +15,13 @@ use Rattle.machine.specs.declared.state.State.{State}
 use Rattle.machine.specs.declared.refusal.Refusal.{Refusal}
 use Rattle.machine.specs.Refusal.{acceptsOf}
 use Rattle.machine.specs.Register.{refusalOf, startRefusal}
-use Rattle.capture.specs.Words.{wordsAt, wordBytes, wordsOf}
+use Rattle.capture.specs.Words.{Below, wordsAt, wordBytes, wordsOf}
 use Rattle.capture.specs.Read.{sizeOf, stateIn, formedOf, readRefusal, readOf, partOf}
 use Rattle.capture.specs.Write.{trailerOf, captureOf, writeRefusal, writtenOf, outOf}
 use Rattle.capture.proofs.Laws.{state-words, state-bytes, capture-length}
 use Rattle.capture.proofs.Checks.{Formed, read-accepts, write-accepts}
 use Rattle.memory.proofs.Laws.{sized-bounds}
-use Rattle.capture.proofs.Codec.{Below, words-in, words-of-bytes, bytes-of-words, words-length, state-of-words, words-of-state}
+use Rattle.capture.proofs.Codec.{words-in, words-of-bytes, bytes-of-words, words-length, state-of-words, words-of-state}
 
 -- the trailer is what `formedOf` looks for
 trailer-formed : (f : List ℕ) (m : ℕ) → length f ≡ m + 156 → 32 ≤ m → wordsAt 3 f (m + 144) ≡ trailerOf m → formedOf f ≡ true

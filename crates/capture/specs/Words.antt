@@ -1,5 +1,5 @@
 -- Big-endian words in bytes, and the 36 words of a state in the order of a capture.
-use Prim.Native.Nat.{ℕ, zero, suc, _+_}
+use Prim.Native.Nat.{ℕ, zero, suc, _+_, _<_}
 use mathlib.Core.List.{List, [], _∷_, _++_, map}
 use lib.ListN.{getD, take}
 use Rattle.word.specs.declared.width.Width.{Width}
@@ -7,6 +7,10 @@ use Rattle.memory.specs.Load.{valueAt}
 use Rattle.memory.specs.Store.{bytesOf}
 use Rattle.machine.specs.State.{contentsOf, registers, orderOf, holding}
 use Rattle.machine.specs.declared.state.State.{State}
+
+-- every number of a list is below n: bytes below 256, words below 2 ^ 32
+abbrev pub Below : ℕ → List ℕ → Type 0
+Below n xs = (k : ℕ) → getD xs k 0 < n
 
 -- n words from a place on
 unfoldable pub wordsAt : ℕ → List ℕ → ℕ → List ℕ

@@ -11,7 +11,7 @@ use word::sign::extend_half;
 use word::sum::plus;
 
 impl State {
-    fn offset_ea(self, ra: u8, d: u16) -> u32
+    pub fn offset_ea(self, ra: u8, d: u16) -> u32
         ensures { λ r. ⌜ r ≡ offsetEa self ra d ⌝ }
     {
         plus(self.base(ra), extend_half(d))

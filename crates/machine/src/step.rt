@@ -80,7 +80,7 @@ impl State {
     }
 
     // The highest asynchronous interrupt that is enabled: in a quiet step there is none.
-    fn highest(self, event: u8) -> Pending
+    pub fn highest(self, event: u8) -> Pending
         ensures { λ r. ⌜ r ≡ highestOf self event ⌝ }
     {
         if quiet(self.tcr, event) {

@@ -3,7 +3,8 @@ ghost use mathlib.Core.Path.{_≡_};
 ghost use Prim.Native.Nat.{_%_};
 ghost use lib.Dec.{eqb};
 ghost use Rattle.word.specs.Width.{bytes};
-ghost use Rattle.memory.specs.Access.{accessOf, sizedOf};
+ghost use Rattle.memory.specs.Access.{accessOf, reachesPast, sizedOf};
+ghost use Rattle.memory.specs.Store.{blockAt};
 use word::width::Width;
 use word::width::size;
 
@@ -38,6 +39,29 @@ pub fn access_at(len: usize, address: u32, width: Width) -> Access
         }
     } else {
         Access::Unaligned
+    }
+}
+
+// The aligned block of 32 bytes that holds an address.
+pub fn block_access(len: usize, address: u32) -> Access
+    ensures { λ r. ⌜ r ≡ accessOf len (blockAt address) 32 ⌝ }
+{
+    let end = (address / 32 * 32) as usize + 32;
+    if end <= len {
+        Access::Served
+    } else {
+        Access::Outside
+    }
+}
+
+// Whether an access fell outside and was no alignment interrupt.
+pub fn reaches_past(access: Access) -> bool
+    ensures { λ r. ⌜ r ≡ reachesPast access ⌝ }
+{
+    match access {
+        Access::Served => false,
+        Access::Unaligned => false,
+        Access::Outside => true,
     }
 }
 

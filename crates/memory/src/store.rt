@@ -9,6 +9,7 @@ ghost use Rattle.memory.specs.Store.{bytesOf, storedOf, blockAt, cleared
 ghost use Rattle.word.specs.declared.width.Width.{Width};
 use crate::access::Access;
 use crate::access::access_at;
+use crate::access::block_access;
 use word::width::Width;
 
 fn put_byte(mem: &mut [u8], at: usize, v: u32)
@@ -76,12 +77,14 @@ fn zero_all(s: &mut [u8])
 pub fn clear(mem: &mut [u8], address: u32) -> Access
     ensures { λ r. ⌜ (r ≡ accessOf (length (now (mem .entry))) (blockAt address) 32) × (now (mem .exit) ≡ clearedOf (now (mem .entry)) address) ⌝ }
 {
-    let at = (address / 32 * 32) as usize;
-    let end = at + 32;
-    if end <= mem.len() {
-        zero_all(&mut mem[at..end]);
-        Access::Served
-    } else {
-        Access::Outside
+    let answer = block_access(mem.len(), address);
+    match answer {
+        Access::Served => {
+            let at = (address / 32 * 32) as usize;
+            zero_all(&mut mem[at..at + 32]);
+            Access::Served
+        }
+        Access::Unaligned => Access::Unaligned,
+        Access::Outside => Access::Outside,
     }
 }

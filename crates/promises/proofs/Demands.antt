@@ -16,7 +16,8 @@ use Rattle.machine.specs.declared.refusal.Refusal.{Refusal}
 use Rattle.run.specs.Run.{Ran, runOf, pastOf}
 use Rattle.run.specs.Outcome.{eventsGood, eventsRefusal, runRefusal, stepRefusal, refusedWith, accepted, runOutcome, runMemory, stepOutcome, stepMemory}
 use Rattle.run.proofs.Laws.{run-halted}
-use Rattle.promises.proofs.Grow.{grownRun, run-grow, run-longer}
+use Rattle.promises.specs.Growth.{grownRun, NeverAlters}
+use Rattle.promises.proofs.Grow.{run-grow, run-longer}
 
 -- ---- a run ends
 
@@ -72,41 +73,34 @@ accepted-exactly s m ev budget =
 
 -- ---- more memory, a longer run
 
-again-cases : (b : Bool) (n i : ℕ) (ev : List ℕ) (s : State) (m : List ℕ) (r : Ran) → eqb (s .halt) 0 ≡ b → suc i ≤ r .steps
+used-cases : (b : Bool) (n i : ℕ) (ev : List ℕ) (s : State) (m : List ℕ) (r : Ran) → eqb (s .halt) 0 ≡ b → suc i ≤ r .steps
     → runOf (r .steps - suc i) (suc i) ev (stepOf s m (getD ev i 0) .st) (stepOf s m (getD ev i 0) .mem) ≡ r
     → (let q = pick b r (record { st = s; mem = m; steps = i }) in runOf (q .steps - i) i ev s m ≡ q)
 unfolding runOf
-again-cases true n i ev s m r e l h =
+used-cases true n i ev s m r e l h =
     let k : r .steps - i ≡ suc (r .steps - suc i) = omega arith in
     rw (k, e) h
-again-cases false n i ev s m r e l h =
+used-cases false n i ev s m r e l h =
     let k : i - i ≡ 0 = omega arith in
     rw k
 
 -- a run with just the budget that it used is the same run
-run-again : (n i : ℕ) (ev : List ℕ) (s : State) (m : List ℕ) → (let r = runOf n i ev s m in runOf (r .steps - i) i ev s m ≡ r)
+used-budget : (n i : ℕ) (ev : List ℕ) (s : State) (m : List ℕ) → (let r = runOf n i ev s m in runOf (r .steps - i) i ev s m ≡ r)
 unfolding runOf
-run-again zero i ev s m =
+used-budget zero i ev s m =
     let k : i - i ≡ 0 = omega arith in
     rw k
-run-again (suc n) i ev s m =
+used-budget (suc n) i ev s m =
     let a = stepOf s m (getD ev i 0) in
-    again-cases (eqb (s .halt) 0) n i ev s m (runOf n (suc i) ev (a .st) (a .mem)) refl (steps-between n (suc i) ev (a .st) (a .mem) .0) (run-again n (suc i) ev (a .st) (a .mem))
+    used-cases (eqb (s .halt) 0) n i ev s m (runOf n (suc i) ev (a .st) (a .mem)) refl (steps-between n (suc i) ev (a .st) (a .mem) .0) (used-budget n (suc i) ev (a .st) (a .mem))
 
 as-many : (s : State) (m x ev : List ℕ) (budget : ℕ) → runOf budget 0 ev s (m ++ x) ≡ grownRun x (runOf budget 0 ev s m)
     → runOf (runOf budget 0 ev s m .steps) 0 ev s (m ++ x) ≡ grownRun x (runOf budget 0 ev s m)
 as-many s m x ev budget g =
     let k : runOf budget 0 ev s (m ++ x) .steps - 0 ≡ runOf budget 0 ev s m .steps = sub-zero _ ∙ ap (λ (q : Ran). q .steps) g in
-    ap (λ (n : ℕ). runOf n 0 ev s (m ++ x)) (sym k) ∙ run-again budget 0 ev s (m ++ x) ∙ g
+    ap (λ (n : ℕ). runOf n 0 ev s (m ++ x)) (sym k) ∙ used-budget budget 0 ev s (m ++ x) ∙ g
 
--- Demand 3. Two accepted starts from one state with one event list, the second with more memory and a budget no smaller. If the first run never
--- reached past its memory, then after as many steps the second has the same registers and halt, the same bytes in the common part, and its extra
--- bytes as given; and if the first halted, the second halts there too.
-pub record NeverAlters (s : State) (m x ev : List ℕ) (budget more : ℕ) : Type 0 where
-  pub after-as-many : runOf (runOf budget 0 ev s m .steps) 0 ev s (m ++ x) ≡ grownRun x (runOf budget 0 ev s m)
-  pub goes-on : (let r = runOf budget 0 ev s m in runOf (budget + more) 0 ev s (m ++ x) ≡ runOf more (r .steps) ev (r .st) (r .mem ++ x))
-  pub halts-there : (runOf budget 0 ev s m .st .halt ≡ 0 → ⊥) → runOf (budget + more) 0 ev s (m ++ x) ≡ grownRun x (runOf budget 0 ev s m)
-
+-- demand 3, of a first run that did not reach past its memory
 pub never-alters : (s : State) (m x ev : List ℕ) (budget more : ℕ)
     → acceptsOf (runRefusal s m ev budget) ≡ true → acceptsOf (runRefusal s (m ++ x) ev (budget + more)) ≡ true
     → pastOf budget 0 ev s m ≡ false → NeverAlters s m x ev budget more

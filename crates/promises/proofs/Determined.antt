@@ -8,15 +8,16 @@ use Rattle.insn.specs.declared.instr.Instr.{Instr}
 use Rattle.insn.specs.declared.instr.Decoded.{Decoded}
 use Rattle.insn.specs.declared.instr.Written.{Written}
 use Rattle.machine.specs.declared.state.State.{State}
-use Rattle.run.specs.Outcome.{runOutcome, runMemory, stepOutcome, stepMemory}
+use Rattle.run.specs.Outcome.{runOutcome, runMemory, runPast, stepOutcome, stepMemory}
 use Rattle.run.specs.Lent.{answerOf}
 use Rattle.run.specs.declared.outcome.Outcome.{Outcome}
 use Rattle.run.specs.declared.lent.Answer.{Answer}
+use Rattle.run.specs.declared.reach.Reached.{Reached}
 use Rattle.capture.specs.Read.{readOf, partOf}
 use Rattle.capture.specs.Write.{writtenOf as captureWritten, outOf}
 use Rattle.capture.specs.declared.read.Read.{Read}
 use Rattle.capture.specs.declared.write.Written.{Written as CaptureWritten}
-use Rattle.abi.specs.Boundary.{legalOf, rewriteOf, runAnswer, runState, runLent, stepAnswer, stepState, stepLent, checkOf, writeAnswer, writeOut}
+use Rattle.abi.specs.Boundary.{legalOf, rewriteOf, runAnswer, runState, runLent, reachAnswer, stepAnswer, stepState, stepLent, checkAnswer, writeAnswer, writeOut}
 
 -- a contract that is an equation has one answer
 one : {A : Type 0} {x y z : A} → x ≡ z → y ≡ z → x ≡ y
@@ -39,6 +40,11 @@ module _ (s : State) (m : List ℕ) where
   pub run-determined : (ev : List ℕ) (budget : ℕ) (r q : Outcome) (m′ n′ : List ℕ)
       → (r ≡ runOutcome s m ev budget) × (m′ ≡ runMemory s m ev budget) → (q ≡ runOutcome s m ev budget) × (n′ ≡ runMemory s m ev budget) → (r ≡ q) × (m′ ≡ n′)
   run-determined ev budget r q m′ n′ = two
+
+  pub reach-determined : (ev : List ℕ) (budget : ℕ) (r q : Reached) (m′ n′ : List ℕ)
+      → (r ≡ record { outcome = runOutcome s m ev budget; past = runPast s m ev budget }) × (m′ ≡ runMemory s m ev budget)
+      → (q ≡ record { outcome = runOutcome s m ev budget; past = runPast s m ev budget }) × (n′ ≡ runMemory s m ev budget) → (r ≡ q) × (m′ ≡ n′)
+  reach-determined ev budget r q m′ n′ = two
 
   pub step-determined : (e : ℕ) (r q : Outcome) (m′ n′ : List ℕ)
       → (r ≡ stepOutcome s m e) × (m′ ≡ stepMemory s m e) → (q ≡ stepOutcome s m e) × (n′ ≡ stepMemory s m e) → (r ≡ q) × (m′ ≡ n′)
@@ -66,7 +72,7 @@ c-legal-determined w r q = one
 pub c-rewrite-determined : (w r q : ℕ) → r ≡ rewriteOf (decodeOf w) → q ≡ rewriteOf (decodeOf w) → r ≡ q
 c-rewrite-determined w r q = one
 
-pub c-check-determined : (f : List ℕ) (r q : ℕ) → r ≡ checkOf f → q ≡ checkOf f → r ≡ q
+pub c-check-determined : (f : List ℕ) (r q : ℕ) → r ≡ checkAnswer f → q ≡ checkAnswer f → r ≡ q
 c-check-determined f r q = one
 
 module _ (s m : List ℕ) where
@@ -74,6 +80,11 @@ module _ (s m : List ℕ) where
       → (r ≡ runAnswer s m ev budget) × ((s′ ≡ runState s m ev budget) × (m′ ≡ runLent s m ev budget)) → (q ≡ runAnswer s m ev budget) × ((t′ ≡ runState s m ev budget) × (n′ ≡ runLent s m ev budget))
       → (r ≡ q) × ((s′ ≡ t′) × (m′ ≡ n′))
   c-run-determined ev budget r q s′ t′ m′ n′ = three
+
+  pub c-reach-determined : (ev : List ℕ) (budget r q : ℕ) (s′ t′ m′ n′ : List ℕ)
+      → (r ≡ reachAnswer s m ev budget) × ((s′ ≡ runState s m ev budget) × (m′ ≡ runLent s m ev budget)) → (q ≡ reachAnswer s m ev budget) × ((t′ ≡ runState s m ev budget) × (n′ ≡ runLent s m ev budget))
+      → (r ≡ q) × ((s′ ≡ t′) × (m′ ≡ n′))
+  c-reach-determined ev budget r q s′ t′ m′ n′ = three
 
   pub c-step-determined : (e r q : ℕ) (s′ t′ m′ n′ : List ℕ)
       → (r ≡ stepAnswer s m e) × ((s′ ≡ stepState s m e) × (m′ ≡ stepLent s m e)) → (q ≡ stepAnswer s m e) × ((t′ ≡ stepState s m e) × (n′ ≡ stepLent s m e))

@@ -20,7 +20,6 @@ use Rattle.insn.specs.declared.instr.Decoded.{Decoded}
 use Rattle.insn.specs.declared.instr.LoadStore.{LoadStore}
 use Rattle.insn.specs.declared.instr.CacheOp.{CacheOp}
 use Rattle.machine.specs.State.{gprOf, with}
-use Rattle.machine.specs.After.{After}
 use Rattle.machine.specs.Interrupt.{enteredOf, accessNoted, programNoted, notedOf, promotedOf, haltedOf, takenFor, interruptedOf, vectorFor}
 use Rattle.machine.specs.LoadStore.{offsetEa, indexedEa, loadedState, storedState, loadAt, storeAt, loadStoreOf}
 use Rattle.machine.specs.Cache.{clearedState, clearAt, cacheOf}
@@ -32,11 +31,7 @@ use Rattle.machine.specs.declared.interrupt.Cause.{Cause}
 use Rattle.machine.specs.declared.interrupt.Vector.{Vector}
 use Rattle.machine.specs.declared.interrupt.Halt.{Halt}
 use Rattle.machine.specs.declared.step.Pending.{Pending}
-use Rattle.promises.specs.Fault.{nothing, raises, loadRaises, storeRaises, loadStoreRaises, cacheRaises, executeRaises, decodedRaises, fetchedRaises, raisedOf, OnlyInterrupt}
-
--- what a fault leaves: the interrupted state and the memory as it was
-abbrev pub faulted : State → List ℕ → Cause → After → Type 0
-faulted s m c a = (a .st ≡ interruptedOf s c) × (a .mem ≡ m)
+use Rattle.promises.specs.Fault.{nothing, raises, loadRaises, storeRaises, loadStoreRaises, cacheRaises, executeRaises, decodedRaises, fetchedRaises, raisedOf, faulted, OnlyInterrupt}
 
 module _ (s : State) (m : List ℕ) (c : Cause) where
   -- nothing raised is no fault

@@ -32,13 +32,7 @@ use Rattle.machine.specs.declared.state.State.{State}
 use Rattle.machine.specs.declared.step.Pending.{Pending}
 use Rattle.run.specs.Run.{Ran, runOf, pastOf}
 use Rattle.run.proofs.Laws.{run-halted}
-
--- the same with bytes after the memory
-abbrev pub grown : List ℕ → After → After
-grown x a = record { st = a .st; mem = a .mem ++ x; past = a .past }
-
-abbrev pub grownRun : List ℕ → Ran → Ran
-grownRun x r = record { st = r .st; mem = r .mem ++ x; steps = r .steps }
+use Rattle.promises.specs.Growth.{grown, grownRun}
 
 module _ (s : State) (m x : List ℕ) where
   load-at-grow : (w : Width) (rt ea : ℕ) (u : Bool) (ra : ℕ) → loadAt s m w rt ea u ra .past ≡ false

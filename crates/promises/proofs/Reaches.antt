@@ -1,14 +1,14 @@
--- Demand 1: every byte that a step reads or writes lies inside the lent memory, it changes no other byte, and no other byte decides it. Assumes nothing.
+-- Demand 1: every byte that a step reads or writes lies inside the lent memory, it changes no other byte, and no other byte decides what it leaves and writes. Assumes nothing.
 use Prim.Native.Nat.{ℕ, suc, _+_, _<_, _≤_}
 use native.Mathlib.Omega.{arith}
 use native.Mathlib.Nat.{add-zero}
 use mathlib.Core.Bool.{Bool, true, false, not, _&&_}
-use mathlib.Core.Path.{_≡_, refl, sym, _∙_}
-use mathlib.Core.List.{List, [], _∷_, _++_}
+use mathlib.Core.Path.{_≡_, refl, ap, sym, _∙_}
+use mathlib.Core.List.{List, [], _∷_, _++_, append-assoc}
 use mathlib.Core.Logic.{_⊎_, inl, inr, ⊎-elim}
 use lib.Dec.{eqb, lit<}
-use lib.ListN.{length, getD, set, replicate}
-use lib.Seq.{sets, getD-set-other}
+use lib.ListN.{length, getD, set, take, drop, replicate, List·getD-append}
+use lib.Seq.{sets, sets-eq, getD-set-other, getD-append-add, length-take-le}
 use Rattle.word.specs.Bits.{bitAt}
 use Rattle.word.specs.Width.{bytes}
 use Rattle.word.specs.declared.width.Width.{Width}
@@ -34,7 +34,7 @@ use Rattle.machine.specs.Timer.{tickedOf, actsOf, actedOf}
 use Rattle.machine.specs.Step.{executeOf, decodedOf, fetchedOf, runningOf, awakeOf, highestOf, interruptibleOf, countedOf, stepOf}
 use Rattle.machine.specs.declared.state.State.{State}
 use Rattle.machine.specs.declared.step.Pending.{Pending}
-use Rattle.promises.specs.Reach.{Span, Use, idle, reads, writes, touched, touchedAt, loadStoreUse, cacheUse, executeUse, decodedUse, fetchedUse, readBy, writtenBy, runningReads, runningWrites, free, executes, readsOf, writesOf, Inside, Misses, Agree}
+use Rattle.promises.specs.Reach.{Span, Use, idle, reads, writes, touched, touchedAt, loadStoreUse, cacheUse, executeUse, decodedUse, fetchedUse, readBy, writtenBy, runningReads, runningWrites, free, executes, readsOf, writesOf, Inside, Misses, Agree, Alike}
 
 -- ---- inside
 
@@ -147,16 +147,16 @@ runs-cases false a Pending.Nothing w s t m e = never (sym e)
 
 -- what a step leaves that does not get there, whatever the memory
 abbrev Rests : (List ℕ → After) → Type 0
-Rests f = (m n : List ℕ) → (f m .mem ≡ m) × (f n .st ≡ f m .st)
+Rests f = (m n : List ℕ) → (f m .mem ≡ m) × ((f n .st ≡ f m .st) × (f n .past ≡ f m .past))
 
 rests-cases : (h a : Bool) (p : Pending) (w : Bool) (s t : State) → (h && not a && free p && not w) ≡ false → Rests (lines h a p w s t)
-rests-cases true true (Pending.Take v) w s t e m n = (refl, refl)
-rests-cases true true Pending.Nothing w s t e m n = (refl, refl)
-rests-cases true false (Pending.Take v) w s t e m n = (refl, refl)
-rests-cases true false Pending.Nothing true s t e m n = (refl, refl)
+rests-cases true true (Pending.Take v) w s t e m n = (refl, (refl, refl))
+rests-cases true true Pending.Nothing w s t e m n = (refl, (refl, refl))
+rests-cases true false (Pending.Take v) w s t e m n = (refl, (refl, refl))
+rests-cases true false Pending.Nothing true s t e m n = (refl, (refl, refl))
 rests-cases true false Pending.Nothing false s t e m n = never e
-rests-cases false a (Pending.Take v) w s t e m n = (refl, refl)
-rests-cases false a Pending.Nothing w s t e m n = (refl, refl)
+rests-cases false a (Pending.Take v) w s t e m n = (refl, (refl, refl))
+rests-cases false a Pending.Nothing w s t e m n = (refl, (refl, refl))
 
 module _ (s : State) (e : ℕ) where
   interruptible-lines : (a h : Bool) (p : Pending) (m : List ℕ)
@@ -211,59 +211,101 @@ agree-split : (m n : List ℕ) (xs ys : List Span) → Agree m n (xs ++ ys) → 
 agree-split m n [] ys h = (tt, h)
 agree-split m n (x ∷ xs) ys h = let r = agree-split m n xs ys (h .1) in ((h .0, r .0), r .1)
 
+-- bytes that were set are those that were given
+sets-at : (bs m : List ℕ) (a k : ℕ) → a + length bs ≤ length m → k < length bs → getD (sets m a bs) (a + k) 0 ≡ getD bs k 0
+sets-at bs m a k h l =
+    let e : length (take a m) ≡ a = length-take-le a m (omega arith) in
+    let d = drop (a + length bs) m in
+    rw (sets-eq bs m a h, append-assoc)
+    (ap (λ (i : ℕ). getD (take a m ++ (bs ++ d)) (i + k) 0) (sym e) ∙ getD-append-add (take a m) (bs ++ d) k 0 ∙ List·getD-append bs d 0 k l)
+
+written-same : (m n : List ℕ) (a : ℕ) (bs : List ℕ) (c : Access) → length n ≡ length m → accessOf (length m) a (length bs) ≡ c
+    → Agree (written c m a bs) (written c n a bs) (touched c a (length bs))
+written-same m n a bs Access.Served l e =
+    let h = served-inside (length m) a (length bs) e in
+    (λ k b. sets-at bs n a k (rw l h) b ∙ sym (sets-at bs m a k h b), tt)
+written-same m n a bs Access.Unaligned l e = tt
+written-same m n a bs Access.Outside l e = tt
+
 module _ (m n : List ℕ) (l : length n ≡ length m) where
   load-same : (a : ℕ) (w : Width) → Agree m n (touchedAt m a (bytes w)) → loadOf n a w ≡ loadOf m a w
   unfolding loadOf
   load-same a w h = rw l (loaded-same w m n a (accessOf (length m) a (bytes w)) h)
 
+  -- an instruction that asks nothing of the memory
+  plain-same : (t : State) → Alike [] [] (plain t m) (plain t n)
+  plain-same t = record { st = refl; past = refl; places = refl; written = tt }
+
   module _ (s : State) where
-    load-store-same : (i : LoadStore) → Agree m n (readBy m (loadStoreUse s i)) → loadStoreOf s n i .st ≡ loadStoreOf s m i .st
-    unfolding loadStoreOf loadAt storeAt
-    load-store-same (LoadStore.Load w u rt ra d) h = rw (load-same (offsetEa s ra d) w h)
-    load-store-same (LoadStore.LoadIndexed w rt ra rb) h = rw (load-same (indexedEa s ra rb) w h)
-    load-store-same (LoadStore.Store w u rs ra d) h = rw l
-    load-store-same (LoadStore.StoreIndexed w rs ra rb) h = rw l
+    load-at-same : (w : Width) (rt ea : ℕ) (u : Bool) (ra : ℕ) → Agree m n (touchedAt m ea (bytes w)) → Alike [] [] (loadAt s m w rt ea u ra) (loadAt s n w rt ea u ra)
+    unfolding loadAt
+    load-at-same w rt ea u ra h = record { st = rw (load-same ea w h); past = rw l; places = refl; written = tt }
 
-    cache-same : (op : CacheOp) (ra rb : ℕ) → cacheOf s n op ra rb .st ≡ cacheOf s m op ra rb .st
-    unfolding cacheOf clearAt
-    cache-same CacheOp.Dcbf ra rb = refl
-    cache-same CacheOp.Dcbi ra rb = refl
-    cache-same CacheOp.Dcbt ra rb = refl
-    cache-same CacheOp.Dcbz ra rb = rw l
+    store-at-same : (w : Width) (rs ea : ℕ) (u : Bool) (ra : ℕ) → Alike (touchedAt m ea (bytes w)) (touchedAt n ea (bytes w)) (storeAt s m w rs ea u ra) (storeAt s n w rs ea u ra)
+    unfolding storeAt storedOf
+    store-at-same w rs ea u ra =
+        let bs = bytesOf w (gprOf s rs) in
+        let e : length bs ≡ bytes w = bytes-length w (gprOf s rs) in
+        let b : Agree (written (accessOf (length m) ea (bytes w)) m ea bs) (written (accessOf (length m) ea (bytes w)) n ea bs) (touchedAt m ea (bytes w)) = rw e at (written-same m n ea bs (accessOf (length m) ea (length bs)) l refl) in
+        record { st = rw l; past = rw l; places = rw l; written = rw l b }
 
-    execute-same : (w : ℕ) (i : Instr) → Agree m n (readBy m (executeUse s i)) → executeOf s n w i .st ≡ executeOf s m w i .st
+    clear-at-same : (ea : ℕ) → Alike (touchedAt m (blockAt ea) 32) (touchedAt n (blockAt ea) 32) (clearAt s m ea) (clearAt s n ea)
+    unfolding clearAt clearedOf
+    clear-at-same ea =
+        let b = written-same m n (blockAt ea) (replicate 32 0) (accessOf (length m) (blockAt ea) 32) l refl in
+        record { st = rw l; past = rw l; places = rw l; written = rw l b }
+
+    load-store-same : (i : LoadStore) → Agree m n (readBy m (loadStoreUse s i)) → Alike (writtenBy m (loadStoreUse s i)) (writtenBy n (loadStoreUse s i)) (loadStoreOf s m i) (loadStoreOf s n i)
+    unfolding loadStoreOf
+    load-store-same (LoadStore.Load w u rt ra d) h = load-at-same w rt (offsetEa s ra d) u ra h
+    load-store-same (LoadStore.LoadIndexed w rt ra rb) h = load-at-same w rt (indexedEa s ra rb) false ra h
+    load-store-same (LoadStore.Store w u rs ra d) h = store-at-same w rs (offsetEa s ra d) u ra
+    load-store-same (LoadStore.StoreIndexed w rs ra rb) h = store-at-same w rs (indexedEa s ra rb) false ra
+
+    cache-same : (op : CacheOp) (ra rb : ℕ) → Alike (writtenBy m (cacheUse s op ra rb)) (writtenBy n (cacheUse s op ra rb)) (cacheOf s m op ra rb) (cacheOf s n op ra rb)
+    unfolding cacheOf
+    cache-same CacheOp.Dcbf ra rb = plain-same _
+    cache-same CacheOp.Dcbi ra rb = plain-same _
+    cache-same CacheOp.Dcbt ra rb = plain-same _
+    cache-same CacheOp.Dcbz ra rb = clear-at-same (indexedEa s ra rb)
+
+    execute-same : (w : ℕ) (i : Instr) → Agree m n (readBy m (executeUse s i)) → Alike (writtenBy m (executeUse s i)) (writtenBy n (executeUse s i)) (executeOf s m w i) (executeOf s n w i)
     unfolding executeOf
-    execute-same w (Instr.Arithmetic i) h = refl
-    execute-same w (Instr.Logical i) h = refl
-    execute-same w (Instr.Compare i) h = refl
-    execute-same w (Instr.Rotate i) h = refl
+    execute-same w (Instr.Arithmetic i) h = plain-same _
+    execute-same w (Instr.Logical i) h = plain-same _
+    execute-same w (Instr.Compare i) h = plain-same _
+    execute-same w (Instr.Rotate i) h = plain-same _
     execute-same w (Instr.LoadStore i) h = load-store-same i h
-    execute-same w (Instr.Branch i) h = refl
-    execute-same w (Instr.Trap to ra rb tg) h = refl
-    execute-same w (Instr.System i) h = refl
+    execute-same w (Instr.Branch i) h = plain-same _
+    execute-same w (Instr.Trap to ra rb tg) h = plain-same _
+    execute-same w (Instr.System i) h = plain-same _
     execute-same w (Instr.Cache op hint ra rb) h = cache-same op ra rb
 
-    decoded-same : (w : ℕ) (d : Decoded) → Agree m n (readBy m (decodedUse s d)) → decodedOf s n w d .st ≡ decodedOf s m w d .st
+    decoded-same : (w : ℕ) (d : Decoded) → Agree m n (readBy m (decodedUse s d)) → Alike (writtenBy m (decodedUse s d)) (writtenBy n (decodedUse s d)) (decodedOf s m w d) (decodedOf s n w d)
     decoded-same w (Decoded.Insn i) h = execute-same w i h
-    decoded-same w Decoded.Illegal h = refl
+    decoded-same w Decoded.Illegal h = plain-same _
 
-    fetched-same : (f : Loaded) → Agree m n (readBy m (fetchedUse s f)) → fetchedOf s n f .st ≡ fetchedOf s m f .st
+    fetched-same : (f : Loaded) → Agree m n (readBy m (fetchedUse s f)) → Alike (writtenBy m (fetchedUse s f)) (writtenBy n (fetchedUse s f)) (fetchedOf s m f) (fetchedOf s n f)
     fetched-same (Loaded.Value w) h = decoded-same w (decodeOf w) h
-    fetched-same Loaded.Unaligned h = refl
-    fetched-same Loaded.Outside h = refl
+    fetched-same Loaded.Unaligned h = plain-same _
+    fetched-same Loaded.Outside h = record { st = refl; past = refl; places = refl; written = tt }
 
-    running-same : Agree m n (runningReads s m) → runningOf s n .st ≡ runningOf s m .st
-    unfolding runningReads runningOf fetchOf
+    running-same : Agree m n (runningReads s m) → Alike (runningWrites s m) (runningWrites s n) (runningOf s m) (runningOf s n)
+    unfolding runningReads runningWrites runningOf fetchOf
     running-same h =
         let both = agree-split m n (touchedAt m (s .iar) 4) (readBy m (fetchedUse s (fetchOf m (s .iar)))) h in
         rw (load-same (s .iar) Width.Word (both .0)) (fetched-same (fetchOf m (s .iar)) (both .1))
 
 same-cases : (m n : List ℕ) → length n ≡ length m → (s : State) (e : ℕ) (b : Bool) → executes s e ≡ b
-    → Agree m n (pick b (runningReads (tickedOf s e) m) []) → stepOf s n e .st ≡ stepOf s m e .st
+    → Agree m n (pick b (runningReads (tickedOf s e) m) [])
+    → Alike (pick b (runningWrites (tickedOf s e) m) []) (pick b (runningWrites (tickedOf s e) n) []) (stepOf s m e) (stepOf s n e)
 same-cases m n l s e true r h = rw (step-runs s e r m, step-runs s e r n) (running-same m n l (tickedOf s e) h)
-same-cases m n l s e false r h = step-rests s e r m n .1
+same-cases m n l s e false r h =
+    let q = step-rests s e r m n in
+    record { st = q .1 .0; past = q .1 .1; places = refl; written = tt }
 
--- another memory of that length with the same bytes there gives the same state
-pub reads-only : (s : State) (m n : List ℕ) (e : ℕ) → length n ≡ length m → Agree m n (readsOf s m e) → stepOf s n e .st ≡ stepOf s m e .st
-unfolding readsOf
+-- another memory of that length with the same bytes there: the same state, and the same bytes written at the same places
+pub reads-only : (s : State) (m n : List ℕ) (e : ℕ) → length n ≡ length m → Agree m n (readsOf s m e)
+    → Alike (writesOf s m e) (writesOf s n e) (stepOf s m e) (stepOf s n e)
+unfolding readsOf writesOf
 reads-only s m n e l h = same-cases m n l s e (executes s e) refl h

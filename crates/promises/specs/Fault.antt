@@ -17,6 +17,8 @@ use Rattle.insn.specs.declared.instr.Instr.{Instr}
 use Rattle.insn.specs.declared.instr.Decoded.{Decoded}
 use Rattle.insn.specs.declared.instr.LoadStore.{LoadStore}
 use Rattle.insn.specs.declared.instr.CacheOp.{CacheOp}
+use Rattle.machine.specs.After.{After}
+use Rattle.machine.specs.Interrupt.{interruptedOf}
 use Rattle.machine.specs.LoadStore.{offsetEa, indexedEa}
 use Rattle.machine.specs.declared.state.State.{State}
 use Rattle.machine.specs.declared.interrupt.Cause.{Cause}
@@ -73,6 +75,10 @@ fetchedRaises s m Loaded.Outside = raises Cause.InstructionStorage
 -- of the instruction at IAR
 unfoldable pub raisedOf : State → List ℕ → Raised
 raisedOf s m = fetchedRaises s m (fetchOf m (s .iar))
+
+-- what a fault leaves: the interrupted state and the memory as it was
+abbrev pub faulted : State → List ℕ → Cause → After → Type 0
+faulted s m c a = (a .st ≡ interruptedOf s c) × (a .mem ≡ m)
 
 -- only SRR0, SRR1, MSR, ISR, EDR, IAR and the halt code may differ
 pub record OnlyInterrupt (s t : State) : Type 0 where

@@ -1,2 +1,3 @@
 pub mod Fault
 pub mod Reach
+pub mod Growth

@@ -18,6 +18,7 @@ use Rattle.insn.specs.declared.instr.Instr.{Instr}
 use Rattle.insn.specs.declared.instr.Decoded.{Decoded}
 use Rattle.insn.specs.declared.instr.LoadStore.{LoadStore}
 use Rattle.insn.specs.declared.instr.CacheOp.{CacheOp}
+use Rattle.machine.specs.After.{After}
 use Rattle.machine.specs.LoadStore.{offsetEa, indexedEa}
 use Rattle.machine.specs.Timer.{tickedOf, actsOf}
 use Rattle.machine.specs.Step.{highestOf}
@@ -121,3 +122,10 @@ Misses a (x ∷ xs) = ((a < x .at) ⊎ (x .at + x .size ≤ a)) × Misses a xs
 abbrev pub Agree : List ℕ → List ℕ → List Span → Type 0
 Agree m n [] = Unit {0}
 Agree m n (x ∷ xs) = ((k : ℕ) → k < x .size → getD n (x .at + k) 0 ≡ getD m (x .at + k) 0) × Agree m n xs
+
+-- two steps did the same, one writing the spans xs and the other ys: they left one state, both reached past the memory or neither did, and they wrote the same bytes at the same places
+pub record Alike (xs ys : List Span) (a b : After) : Type 0 where
+  pub st : b .st ≡ a .st
+  pub past : b .past ≡ a .past
+  pub places : ys ≡ xs
+  pub written : Agree (a .mem) (b .mem) xs

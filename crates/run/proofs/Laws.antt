@@ -1,8 +1,8 @@
--- Laws of the run, one step on and at its ends, of the event list, one byte on, and of a step that is refused. Assumes nothing.
+-- Laws of the run and of its reach, one step on and at the ends, of the event list, one byte on, and of a step that is refused. Assumes nothing.
 use Prim.Native.Nat.{ℕ, zero, suc, _+_, _-_, _≤_, _<_}
 use native.Mathlib.Omega.{arith}
 use native.Mathlib.Numerals.{add-one}
-use mathlib.Core.Bool.{Bool, true, false, not}
+use mathlib.Core.Bool.{Bool, true, false, not, _||_}
 use mathlib.Core.Path.{_≡_, refl, subst}
 use mathlib.Core.List.{List, [], _∷_}
 use lib.Dec.{T as Holds}
@@ -14,7 +14,7 @@ use Rattle.machine.specs.declared.state.State.{State}
 use Rattle.machine.specs.declared.refusal.Refusal.{Refusal}
 use Rattle.machine.specs.Refusal.{acceptsOf}
 use Rattle.machine.specs.Step.{stepOf}
-use Rattle.run.specs.Run.{Ran, runOf}
+use Rattle.run.specs.Run.{Ran, runOf, pastOf}
 use Rattle.run.specs.Outcome.{eventsGood, accepted, refusedWith, answered, stepRefusal, stepOutcome}
 
 module _ (ev : List ℕ) (s : State) (m : List ℕ) where
@@ -35,6 +35,35 @@ module _ (ev : List ℕ) (s : State) (m : List ℕ) where
   unfolding runOf
   run-halted zero i h = refl
   run-halted (suc n) i h = rw (ne-eqb (s .halt) 0 h)
+
+-- a run whose first steps reached, or not, and whose next one did, or not
+turn-past : (p q r : Bool) → (p || pick q true r) ≡ ((p || q) || r)
+turn-past true q r = refl
+turn-past false true r = refl
+turn-past false false r = refl
+
+module _ (ev : List ℕ) (s : State) (m : List ℕ) where
+  pub past-more : (b i : ℕ) (p : Bool) → i < b → s .halt ≡ 0
+      → (p || pastOf (b - i) i ev s m) ≡ ((p || stepOf s m (getD ev i 0) .past) || pastOf (b - (i + 1)) (i + 1) ev (stepOf s m (getD ev i 0) .st) (stepOf s m (getD ev i 0) .mem))
+  unfolding pastOf
+  past-more b i p h z =
+      let e : b - i ≡ suc (b - (i + 1)) = omega arith in
+      rw (e, eq-eqb (s .halt) 0 z, add-one) (turn-past p (stepOf s m (getD ev i 0) .past) _)
+
+  pub past-spent : (b i : ℕ) → b ≤ i → pastOf (b - i) i ev s m ≡ false
+  unfolding pastOf
+  past-spent b i h =
+      let e : b - i ≡ 0 = omega arith in
+      rw e
+
+  pub past-halted : (n i : ℕ) → (s .halt ≡ 0 → ⊥) → pastOf n i ev s m ≡ false
+  unfolding pastOf
+  past-halted zero i h = refl
+  past-halted (suc n) i h = rw (ne-eqb (s .halt) 0 h)
+
+pub or-nothing : (p : Bool) → (p || false) ≡ p
+or-nothing true = refl
+or-nothing false = refl
 
 -- a run of one step
 pub run-one : (e : ℕ) (s : State) (m : List ℕ) → s .halt ≡ 0

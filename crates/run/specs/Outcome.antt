@@ -1,6 +1,6 @@
 -- What a run and a single step answer, refusals first.
 use Prim.Native.Nat.{ℕ}
-use mathlib.Core.Bool.{Bool, true, _&&_}
+use mathlib.Core.Bool.{Bool, true, false, _&&_}
 use mathlib.Core.List.{List, [], _∷_}
 use lib.Dec.{leb, ltb}
 use lib.ListN.{length}
@@ -9,7 +9,7 @@ use Rattle.machine.specs.Refusal.{acceptsOf, unless, orElse}
 use Rattle.machine.specs.Register.{startRefusal}
 use Rattle.machine.specs.declared.state.State.{State}
 use Rattle.machine.specs.declared.refusal.Refusal.{Refusal}
-use Rattle.run.specs.Run.{Ran, runOf}
+use Rattle.run.specs.Run.{Ran, runOf, pastOf}
 use Rattle.run.specs.declared.outcome.Outcome.{Outcome}
 
 -- every event byte is below 64
@@ -49,6 +49,10 @@ runOutcome s m ev budget = answered (runRefusal s m ev budget) s (runOf budget 0
 
 unfoldable pub runMemory : State → List ℕ → List ℕ → ℕ → List ℕ
 runMemory s m ev budget = remembered (runRefusal s m ev budget) m (runOf budget 0 ev s m)
+
+-- whether it reached past its memory; refused, it took no step
+unfoldable pub runPast : State → List ℕ → List ℕ → ℕ → Bool
+runPast s m ev budget = pick (acceptsOf (runRefusal s m ev budget)) (pastOf budget 0 ev s m) false
 
 -- a single step is a run of one
 unfoldable pub stepOutcome : State → List ℕ → ℕ → Outcome

@@ -11,13 +11,13 @@ use machine::refusal::accepts;
 use machine::state::State;
 
 // What the loop breaks with: the halt code, and the count of steps with it.
-struct Stop {
-    halt: u32,
-    steps: u32,
+pub struct Stop {
+    pub halt: u32,
+    pub steps: u32,
 }
 
 // The event byte of step i: 0 past the list's end.
-fn event_at(events: &[u8], i: u32) -> u8
+pub fn event_at(events: &[u8], i: u32) -> u8
     ensures { λ r. ⌜ r ≡ getD (now (events .entry)) i 0 ⌝ }
 {
     let k = i as usize;
@@ -55,7 +55,7 @@ fn accepted_run(start: State, mem: &mut [u8], events: &[u8], budget: u32) -> Out
 }
 
 // The state as given, and no steps.
-fn refused(state: State, refusal: Refusal) -> Outcome
+pub fn refused(state: State, refusal: Refusal) -> Outcome
     ensures { λ r. ⌜ r ≡ refusedWith state refusal ⌝ }
 {
     Outcome {

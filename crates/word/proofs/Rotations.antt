@@ -30,9 +30,9 @@ left-more x k j = ap (λ (m : ℕ). x * m / 2 ^ k) (pow-add 2 j k) ∙ ap (λ (m
 gone : (x k : ℕ) → x < 2 ^ 32 → 32 ≤ k → x / 2 ^ k ≡ 0
 gone x k hx hk = div-eq-of-lt (lt-of-lt-of-le hx (pow-mono hk))
 
-or-false : (b : Bool) → (b || false) ≡ b
-or-false true = refl
-or-false false = refl
+or-none : (b : Bool) → (b || false) ≡ b
+or-none true = refl
+or-none false = refl
 
 pub rotl-bit : (x n i : ℕ) → x < 2 ^ 32 → n < 32 → i < 32 → bitAt (rotl x n) i ≡ bitAt x ((i + n) % 32)
 rotl-bit x n i hx hn hi =
@@ -42,7 +42,7 @@ rotl-bit x n i hx hn hi =
     let e : 31 - i ≡ n + (31 - (i + n) % 32) = omega arith in
     let s : x * 2 ^ n / 2 ^ (31 - i) ≡ x / 2 ^ (31 - (i + n) % 32) = ap (λ (k : ℕ). x * 2 ^ n / 2 ^ k) e ∙ left-right x n _ in
     let z : x / 2 ^ (32 - n) / 2 ^ (31 - i) ≡ 0 = shr-shr x (32 - n) (31 - i) ∙ gone x _ hx (omega arith) in
-    ap₂ (λ (a b : ℕ). eqb a 1 || eqb (b % 2) 1) (low-bit (x * 2 ^ n) (31 - i) (omega arith) ∙ ap (λ (m : ℕ). m % 2) s) z ∙ or-false _)
+    ap₂ (λ (a b : ℕ). eqb a 1 || eqb (b % 2) 1) (low-bit (x * 2 ^ n) (31 - i) (omega arith) ∙ ap (λ (m : ℕ). m % 2) s) z ∙ or-none _)
     (λ p.
     let e : n ≡ suc (i + n - 32) + (31 - i) = omega arith in
     let e′ : 32 - n + (31 - i) ≡ 31 - (i + n) % 32 = omega arith in

@@ -8,13 +8,9 @@ use lib.IntN.{ℤ, pos, negsuc, subℕ, _+ℤ_}
 use lib.Signed.{ltZ, leZ}
 use borrow.Author.Tests.{lt-ltb, le-ltb, le-leb, lt-leb}
 use Rattle.word.specs.Bits.{digit}
-use Rattle.word.specs.Sign.{signed}
+use Rattle.word.specs.Sign.{signed, leavesRange}
 use Rattle.word.specs.Sum.{sumOf}
 use Rattle.word.proofs.Laws.{split, digit-le}
-
--- below - 2 ^ 31, or 2 ^ 31 and above
-abbrev pub leavesRange : ℤ → Bool
-leavesRange z = leZ (pos (2 ^ 31)) z || ltZ z (negsuc (2 ^ 31 - 1))
 
 sub-inside : (x y : ℕ) → x < y + 2 ^ 31 → y ≤ x + 2 ^ 31 → leavesRange (subℕ x y) ≡ false
 sub-inside x y h l =

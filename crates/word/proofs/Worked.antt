@@ -55,6 +55,6 @@ rows =
     ∷ []
 
 -- every row holds: two lists of numbers, both computed
-pub rows-hold : map computed rows ≡ map printed rows
+pub numbers-hold : map computed rows ≡ map printed rows
 unfolding mask leadingZeros
-rows-hold = refl
+numbers-hold = refl

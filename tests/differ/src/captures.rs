@@ -40,8 +40,7 @@ fn compare_read(library: &Library, case: &Case, urn: &mut Urn, tally: &mut Tally
     if expected == given {
         return Ok(());
     }
-    let lines = answers((expected as u64) << 32, (given as u64) << 32);
-    Err(Difference::told(&format!("capture of {:X} bytes read", file.len()), lines))
+    Err(Difference::told(&format!("capture of {:X} bytes read", file.len()), answers(expected, given)))
 }
 
 /// The case's parts with a trailer, right as far as the case is; then now and then spoilt.

@@ -1,23 +1,18 @@
 //! Demand 3 on the library alone: more memory or a longer run never alters what was already found.
 
 use crate::case::{Case, MOST};
-use crate::report::{answers, buffers, states, Difference};
-use crate::runs::Reference;
+use crate::report::Difference;
+use crate::runs::Run;
 use crate::tally::Tally;
 use draw::Urn;
-use linked::Library;
+use linked::{Library, Play};
 
-/// `first` is how the library's own run ended, too: the two were compared before.
-pub fn check(
-    library: &Library,
-    case: &Case,
-    first: &Reference,
-    urn: &mut Urn,
-    tally: &mut Tally,
-) -> Result<(), Difference> {
+/// `first` is the library's own run, and its own word on its reach decides whether anything is asked. That word is the
+/// reference's as well, or `compare_run` has failed: no core is spared by telling a reach.
+pub fn check(library: &Library, case: &Case, first: &Run, urn: &mut Urn, tally: &mut Tally) -> Result<(), Difference> {
     let extra = 32 * urn.below(9) as usize;
     let longer = case.budget.saturating_add(urn.below(60)).min(MOST);
-    if !first.accepted() || first.reached || case.memory.len() + extra > MOST as usize {
+    if !first.accepted() || first.reached() || case.memory.len() + extra > MOST as usize {
         return Ok(());
     }
     tally.grown += 1;
@@ -25,49 +20,37 @@ pub fn check(
     memory.resize(case.memory.len() + extra, 0);
     urn.fill(&mut memory[case.memory.len()..]);
     let larger = Case { memory, ..case.clone() };
+    grow(library.run, &larger, first, longer)?;
+    grow(library.run_reach, &larger, first, longer)
+}
 
-    let as_many = Run::of(library, &larger, &larger.events, first.steps());
+/// The same steps do not reach past more memory either, so both functions answer them alike.
+fn grow(play: Play, larger: &Case, first: &Run, longer: u32) -> Result<(), Difference> {
+    let as_many = Run::of(play, larger, &larger.events, first.steps());
     let mut expected = larger.memory.clone();
-    expected[..case.memory.len()].copy_from_slice(&first.memory);
-    let found = Run { answer: first.answer, state: first.state.clone(), memory: expected };
-    as_many.unless_same(&found, "as many steps with more memory")?;
+    expected[..first.memory.len()].copy_from_slice(&first.memory);
+    let found = Run { memory: expected, ..first.clone() };
+    unless_same(&as_many, &found, "as many steps with more memory")?;
 
-    let longer_run = Run::of(library, &larger, &larger.events, longer);
-    let continued = if first.halted { found } else { as_many.continued(library, &larger, longer) };
-    longer_run.unless_same(&continued, "a longer run with more memory")
+    let longer_run = Run::of(play, larger, &larger.events, longer);
+    let continued = if first.halted() { found } else { continued(as_many, play, larger, longer) };
+    unless_same(&longer_run, &continued, "a longer run with more memory")
 }
 
-struct Run {
-    answer: u64,
-    state: Vec<u8>,
-    memory: Vec<u8>,
+/// A run that did not reach, gone on with to `budget` steps in all.
+fn continued(done: Run, play: Play, start: &Case, budget: u32) -> Run {
+    let steps = done.steps();
+    let rest = start.events.get(steps as usize..).unwrap_or(&[]);
+    let here = Case { state: done.state, memory: done.memory, events: vec![], budget };
+    let more = Run::of(play, &here, rest, budget - steps);
+    Run { answer: done.answer + more.answer, ..more }
 }
 
-impl Run {
-    fn of(library: &Library, start: &Case, events: &[u8], budget: u32) -> Run {
-        let (mut state, mut memory) = (start.state.clone(), start.memory.clone());
-        let answer = (library.run)(&mut state, &mut memory, events, budget);
-        Run { answer, state, memory }
+fn unless_same(given: &Run, expected: &Run, what: &str) -> Result<(), Difference> {
+    if given == expected {
+        return Ok(());
     }
-
-    /// This run, gone on with to `budget` steps in all.
-    fn continued(self, library: &Library, start: &Case, budget: u32) -> Run {
-        let done = self.answer;
-        let rest = start.events.get(done as usize..).unwrap_or(&[]);
-        let here = Case { state: self.state, memory: self.memory, events: vec![], budget };
-        let more = Run::of(library, &here, rest, budget - done as u32);
-        Run { answer: done + more.answer, ..more }
-    }
-
-    fn unless_same(&self, expected: &Run, what: &str) -> Result<(), Difference> {
-        if self.answer == expected.answer && self.state == expected.state && self.memory == expected.memory {
-            return Ok(());
-        }
-        let mut lines = answers(expected.answer, self.answer);
-        lines.extend(states(&expected.state, &self.state));
-        lines.extend(buffers("memory", &expected.memory, &self.memory));
-        Err(Difference::told(what, lines))
-    }
+    Err(Difference::told(what, given.departures(expected)))
 }
 
 #[cfg(test)]
@@ -97,22 +80,30 @@ mod tests {
         second::run(state, memory, events, budget)
     }
 
-    /// Whether the check fails for a branch to itself, run for five steps in 32 bytes.
-    fn caught(run: fn(&mut [u8], &mut [u8], &[u8], u32) -> u64) -> bool {
-        let library = Library { run, ..LINKED };
+    const BRANCH_TO_ITSELF: u32 = 0x4800_0000;
+    const LOAD_AT_32: u32 = 0x8060_0020;
+
+    /// Whether the check fails for a run of five steps in 32 bytes that start with the word.
+    fn caught(library: Library, word: u32) -> bool {
         let mut memory = vec![0; 32];
-        memory[0] = 0x48;
+        memory[..4].copy_from_slice(&word.to_be_bytes());
         let case = Case { state: vec![0; 4 * WORDS], memory, events: vec![], budget: 5 };
-        let first = Run::of(&library, &case, &case.events, case.budget);
-        let first =
-            Reference { answer: first.answer, state: first.state, memory: first.memory, halted: false, reached: false };
+        let first = Run::of(library.run_reach, &case, &case.events, case.budget);
         let mut urn = Urn::new(1);
         (0..100).any(|_| check(&library, &case, &first, &mut urn, &mut Tally::default()).is_err())
     }
 
     #[test]
     fn a_core_that_shows_its_memory_or_budget_is_caught() {
-        assert!(caught(length_shows) && caught(budget_shows) && caught(end_is_cleared));
-        assert!(!caught(second::run));
+        for flawed in [length_shows, budget_shows, end_is_cleared] {
+            assert!(caught(Library { run: flawed, run_reach: flawed, ..LINKED }, BRANCH_TO_ITSELF));
+        }
+        assert!(!caught(LINKED, BRANCH_TO_ITSELF));
+    }
+
+    #[test]
+    fn a_core_that_hides_its_reach_is_caught() {
+        assert!(caught(Library { run_reach: second::run, ..LINKED }, LOAD_AT_32));
+        assert!(!caught(LINKED, LOAD_AT_32));
     }
 }

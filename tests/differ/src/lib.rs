@@ -23,8 +23,8 @@ pub fn compare(library: &Library, urn: &mut Urn, tally: &mut Tally) -> Result<()
     tally.cases += 1;
     words::compare_some(library, urn)?;
     let reference = runs::refer(&case, tally);
-    runs::compare_run(library, &case, &reference)?;
+    let own = runs::compare_run(library, &case, &reference)?;
     runs::compare_step(library, &case, urn, tally)?;
     captures::compare(library, &case, urn, tally)?;
-    growth::check(library, &case, &reference, urn, tally)
+    growth::check(library, &case, &own, urn, tally)
 }

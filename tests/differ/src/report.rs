@@ -1,5 +1,6 @@
 //! A difference, told so that the documents can judge it.
 
+use linked::REACHED;
 use second::registers::{GPRS, OTHERS};
 use second::{Core, Word};
 use std::fmt;
@@ -26,7 +27,10 @@ pub fn answers(expected: u64, given: u64) -> Vec<String> {
     if expected == given {
         return vec![];
     }
-    let tell = |answer: u64| format!("refusal {} count {}", answer >> 32, answer as u32);
+    let tell = |answer: u64| {
+        let reach = if answer & REACHED == 0 { "" } else { ", reached" };
+        format!("refusal {} count {}{reach}", (answer & !REACHED) >> 32, answer as u32)
+    };
     vec![format!("answer: expected {}, given {}", tell(expected), tell(given))]
 }
 

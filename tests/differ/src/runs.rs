@@ -4,36 +4,55 @@ use crate::case::{bytes, Case};
 use crate::report::{answers, before, buffers, states, word_at, Difference};
 use crate::tally::Tally;
 use draw::Urn;
-use linked::Library;
+use linked::{Library, Play, REACHED};
 
-/// What the second implementation makes of a case.
-pub struct Reference {
+/// What a run answered and what it left.
+#[derive(Clone, PartialEq)]
+pub struct Run {
     pub answer: u64,
     pub state: Vec<u8>,
     pub memory: Vec<u8>,
-    pub halted: bool,
-    pub reached: bool,
 }
 
-impl Reference {
+impl Run {
+    pub fn of(play: Play, start: &Case, events: &[u8], budget: u32) -> Run {
+        let (mut state, mut memory) = (start.state.clone(), start.memory.clone());
+        let answer = play(&mut state, &mut memory, events, budget);
+        Run { answer, state, memory }
+    }
+
     pub fn steps(&self) -> u32 {
         self.answer as u32
     }
 
     pub fn accepted(&self) -> bool {
-        self.answer >> 32 == 0
+        (self.answer & !REACHED) >> 32 == 0
+    }
+
+    pub fn reached(&self) -> bool {
+        self.answer & REACHED != 0
+    }
+
+    /// Whether an accepted run ended halted: the halt code is the last byte of its state.
+    pub fn halted(&self) -> bool {
+        self.state.last() != Some(&0)
+    }
+
+    /// The lines that tell how this run is another than expected.
+    pub fn departures(&self, expected: &Run) -> Vec<String> {
+        let states = states(&expected.state, &self.state);
+        [answers(expected.answer, self.answer), states, buffers("memory", &expected.memory, &self.memory)].concat()
     }
 }
 
-/// The case step by step, each step counted.
-pub fn refer(case: &Case, tally: &mut Tally) -> Reference {
+/// The case step by step, each step counted, with the reach in the answer.
+pub fn refer(case: &Case, tally: &mut Tally) -> Run {
     let mut memory = case.memory.clone();
     let mut core = match second::accept(&case.state, &memory, &case.events, case.budget) {
         Ok(core) => core,
         Err(refusal) => {
             tally.refuse_run(refusal);
-            let answer = (refusal as u64) << 32;
-            return Reference { answer, state: case.state.clone(), memory, halted: false, reached: false };
+            return Run { answer: (refusal as u64) << 32, state: case.state.clone(), memory };
         }
     };
     let mut steps = 0;
@@ -45,62 +64,69 @@ pub fn refer(case: &Case, tally: &mut Tally) -> Reference {
         reached |= outcome.reached();
         steps += 1;
     }
-    tally.end(&core);
-    Reference { answer: steps as u64, state: bytes(&core.to_words()), memory, halted: core.halt != 0, reached }
+    tally.end(&core, reached);
+    let answer = steps as u64 | if reached { REACHED } else { 0 };
+    Run { answer, state: bytes(&core.to_words()), memory }
 }
 
 fn event(case: &Case, step: u32) -> u8 {
     case.events.get(step as usize).copied().unwrap_or(0)
 }
 
-pub fn compare_run(library: &Library, case: &Case, reference: &Reference) -> Result<(), Difference> {
-    let (mut state, mut memory) = (case.state.clone(), case.memory.clone());
-    let answer = (library.run)(&mut state, &mut memory, &case.events, case.budget);
-    if answer == reference.answer && state == reference.state && memory == reference.memory {
-        return Ok(());
+/// By both functions that run; the library's own run with its reach, once it is seen to be the reference's.
+pub fn compare_run(library: &Library, case: &Case, reference: &Run) -> Result<Run, Difference> {
+    let silent = Run { answer: reference.answer & !REACHED, ..reference.clone() };
+    compare_play("run", case, library.run, second::run, &silent)?;
+    compare_play("run_reach", case, library.run_reach, second::run_reach, reference)
+}
+
+fn compare_play(what: &str, case: &Case, theirs: Play, ours: Play, expected: &Run) -> Result<Run, Difference> {
+    let given = Run::of(theirs, case, &case.events, case.budget);
+    if given == *expected {
+        return Ok(given);
     }
-    let mut lines = answers(reference.answer, answer);
-    lines.extend(states(&reference.state, &state));
-    lines.extend(buffers("memory", &reference.memory, &memory));
-    Err(Difference::told(&format!("run of {} steps: {}", case.budget, locate(library, case)), lines))
+    let place = if expected.accepted() { locate(case, theirs, ours) } else { "refused".into() };
+    Err(Difference::told(&format!("{what} of {} steps: {place}", case.budget), given.departures(expected)))
 }
 
 /// The first step at which the library departs, as the second implementation comes to it.
-fn locate(library: &Library, case: &Case) -> String {
-    let Ok(mut core) = second::accept(&case.state, &case.memory, &case.events, case.budget) else {
-        return "refused".into();
-    };
-    let mut memory = case.memory.clone();
+fn locate(case: &Case, theirs: Play, ours: Play) -> String {
     for step in 0..case.budget {
-        let told = before(&core, &memory, event(case, step));
-        core.step(&mut memory, event(case, step));
-        let (mut state, mut theirs) = (case.state.clone(), case.memory.clone());
-        (library.run)(&mut state, &mut theirs, &case.events, step + 1);
-        if state != bytes(&core.to_words()) || theirs != memory {
-            let departure = [states(&bytes(&core.to_words()), &state), buffers("memory", &memory, &theirs)].concat();
-            return format!("step {step}: {told}\n  after it: {}\n  at the end:", departure.join("; "));
+        let given = Run::of(theirs, case, &case.events, step + 1);
+        let expected = Run::of(ours, case, &case.events, step + 1);
+        if given != expected {
+            let start = Run::of(ours, case, &case.events, step);
+            let told = told(&start.state, &start.memory, event(case, step));
+            let departures = given.departures(&expected).join("; ");
+            return format!("step {step}: {told}\n  after it: {departures}\n  at the end:");
         }
     }
     "each shorter run agrees".into()
 }
 
+/// What a step starts from.
+fn told(state: &[u8], memory: &[u8], event: u8) -> String {
+    match second::accept(state, memory, &[], 0) {
+        Ok(core) => before(&core, memory, event),
+        Err(refusal) => format!("refused with {refusal}"),
+    }
+}
+
 /// One step from the same start, its event now and then bad.
 pub fn compare_step(library: &Library, case: &Case, urn: &mut Urn, tally: &mut Tally) -> Result<(), Difference> {
     let event = if urn.percent(5) { urn.word() as u8 } else { event(case, 0) };
-    let (mut state, mut memory) = (case.state.clone(), case.memory.clone());
-    let answer = second::step(&mut state, &mut memory, event);
-    tally.answer_step(answer);
-    let (mut their_state, mut their_memory) = (case.state.clone(), case.memory.clone());
-    let theirs = (library.step)(&mut their_state, &mut their_memory, event);
-    if answer == theirs && state == their_state && memory == their_memory {
+    let expected = step_of(second::step, case, event);
+    tally.answer_step(expected.answer);
+    let given = step_of(library.step, case, event);
+    if given == expected {
         return Ok(());
     }
-    let mut lines = answers(answer, theirs);
-    lines.extend(states(&state, &their_state));
-    lines.extend(buffers("memory", &memory, &their_memory));
-    let told = match second::accept(&case.state, &case.memory, &[], 0) {
-        Ok(core) => before(&core, &case.memory, event),
-        Err(refusal) => format!("refused with {refusal}"),
-    };
-    Err(Difference::told(&format!("one step: {told}"), lines))
+    let told = told(&case.state, &case.memory, event);
+    Err(Difference::told(&format!("one step: {told}"), given.departures(&expected)))
+}
+
+fn step_of(step: fn(&mut [u8], &mut [u8], u8) -> u64, start: &Case, event: u8) -> Run {
+    let (mut state, mut memory) = (start.state.clone(), start.memory.clone());
+    let answer = step(&mut state, &mut memory, event);
+    Run { answer, state, memory }
 }

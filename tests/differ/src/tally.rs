@@ -13,6 +13,8 @@ pub struct Tally {
     pub cases: u64,
     pub steps: u64,
     pub reached: u64,
+    /// Runs that did so in some step.
+    runs_reached: u64,
     /// Steps without an event in which TCR enables nothing and DEC counts.
     quiet: u64,
     /// Cases in which more memory and a longer run were tried.
@@ -38,6 +40,7 @@ impl Default for Tally {
             cases: 0,
             steps: 0,
             reached: 0,
+            runs_reached: 0,
             quiet: 0,
             grown: 0,
             executed: Kind::ALL.iter().map(|kind| (kind.mnemonic(), 0)).collect(),
@@ -85,8 +88,9 @@ impl Tally {
         }
     }
 
-    pub fn end(&mut self, core: &Core) {
+    pub fn end(&mut self, core: &Core, reached: bool) {
         self.runs[0] += 1;
+        self.runs_reached += reached as u64;
         self.halts[core.halt as usize] += 1;
     }
 
@@ -98,8 +102,8 @@ impl Tally {
         self.steps_refused[(answer >> 32) as usize] += 1;
     }
 
-    pub fn answer_read(&mut self, refusal: u32) {
-        self.captures_read[refusal as usize] += 1;
+    pub fn answer_read(&mut self, answer: u64) {
+        self.captures_read[(answer >> 32) as usize] += 1;
     }
 
     pub fn answer_write(&mut self, answer: u64) {
@@ -139,6 +143,7 @@ fn how(taken: Taken) -> &'static str {
 impl fmt::Display for Tally {
     fn fmt(&self, f: &mut fmt::Formatter) -> fmt::Result {
         writeln!(f, "{} cases, {} steps, {} of them past memory", self.cases, self.steps, self.reached)?;
+        writeln!(f, "{} runs reached past their memory", self.runs_reached)?;
         writeln!(f, "{} steps without an event or anything that TCR asks for", self.quiet)?;
         writeln!(f, "{} cases run again with more memory and a longer run", self.grown)?;
         writeln!(f, "executed:")?;

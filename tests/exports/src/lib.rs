@@ -37,6 +37,21 @@ pub unsafe extern "C" fn ppe42_run(
 /// # Safety
 /// See the top.
 #[no_mangle]
+pub unsafe extern "C" fn ppe42_run_reach(
+    state: *mut u8,
+    state_len: usize,
+    memory: *mut u8,
+    memory_len: usize,
+    events: *const u8,
+    events_len: usize,
+    budget: u32,
+) -> u64 {
+    second::run_reach(lent_mut(state, state_len), lent_mut(memory, memory_len), lent(events, events_len), budget)
+}
+
+/// # Safety
+/// See the top.
+#[no_mangle]
 pub unsafe extern "C" fn ppe42_step(
     state: *mut u8,
     state_len: usize,
@@ -50,7 +65,7 @@ pub unsafe extern "C" fn ppe42_step(
 /// # Safety
 /// See the top.
 #[no_mangle]
-pub unsafe extern "C" fn ppe42_capture_check(file: *const u8, len: usize) -> u32 {
+pub unsafe extern "C" fn ppe42_capture_check(file: *const u8, len: usize) -> u64 {
     second::capture_check(lent(file, len))
 }
 

@@ -15,8 +15,17 @@ extern "C" {
         events_len: usize,
         budget: u32,
     ) -> u64;
+    fn ppe42_run_reach(
+        state: *mut u8,
+        state_len: usize,
+        memory: *mut u8,
+        memory_len: usize,
+        events: *const u8,
+        events_len: usize,
+        budget: u32,
+    ) -> u64;
     fn ppe42_step(state: *mut u8, state_len: usize, memory: *mut u8, memory_len: usize, event: u8) -> u64;
-    fn ppe42_capture_check(file: *const u8, len: usize) -> u32;
+    fn ppe42_capture_check(file: *const u8, len: usize) -> u64;
     fn ppe42_capture_write(
         state: *const u8,
         state_len: usize,
@@ -27,6 +36,12 @@ extern "C" {
     ) -> u64;
 }
 
+/// A function that plays a run: given state, memory, event list and budget.
+pub type Play = fn(&mut [u8], &mut [u8], &[u8], u32) -> u64;
+
+/// Added to the answer of a run that reached past its memory.
+pub const REACHED: u64 = 1 << 63;
+
 /// A bench core's functions, so that a comparison can be given another core than the linked one.
 #[derive(Clone, Copy)]
 pub struct Library {
@@ -35,15 +50,17 @@ pub struct Library {
     /// 2^32 + the word that reading and writing give, or 0 if illegal.
     pub rewrite: fn(u32) -> u64,
     /// Refusal * 2^32 + steps.
-    pub run: fn(&mut [u8], &mut [u8], &[u8], u32) -> u64,
+    pub run: Play,
+    /// The same, and `REACHED` where it is due.
+    pub run_reach: Play,
     pub step: fn(&mut [u8], &mut [u8], u8) -> u64,
-    /// A refusal, or 0.
-    pub capture_check: fn(&[u8]) -> u32,
+    /// Refusal * 2^32 + the length of the capture's memory.
+    pub capture_check: fn(&[u8]) -> u64,
     /// Refusal * 2^32 + bytes written.
     pub capture_write: fn(&[u8], &[u8], &mut [u8]) -> u64,
 }
 
-pub const LINKED: Library = Library { legal, rewrite, run, step, capture_check, capture_write };
+pub const LINKED: Library = Library { legal, rewrite, run, run_reach, step, capture_check, capture_write };
 
 // SAFETY, for each call: the library touches nothing but the buffers that it is lent, within their lengths.
 
@@ -69,11 +86,25 @@ fn run(state: &mut [u8], memory: &mut [u8], events: &[u8], budget: u32) -> u64 {
     }
 }
 
+fn run_reach(state: &mut [u8], memory: &mut [u8], events: &[u8], budget: u32) -> u64 {
+    unsafe {
+        ppe42_run_reach(
+            state.as_mut_ptr(),
+            state.len(),
+            memory.as_mut_ptr(),
+            memory.len(),
+            events.as_ptr(),
+            events.len(),
+            budget,
+        )
+    }
+}
+
 fn step(state: &mut [u8], memory: &mut [u8], event: u8) -> u64 {
     unsafe { ppe42_step(state.as_mut_ptr(), state.len(), memory.as_mut_ptr(), memory.len(), event) }
 }
 
-fn capture_check(file: &[u8]) -> u32 {
+fn capture_check(file: &[u8]) -> u64 {
     unsafe { ppe42_capture_check(file.as_ptr(), file.len()) }
 }
 

@@ -26,7 +26,8 @@ fn word_at(bytes: &[u8], at: usize) -> u32 {
     u32::from_be_bytes([bytes[at], bytes[at + 1], bytes[at + 2], bytes[at + 3]])
 }
 
-pub fn check(file: &[u8]) -> Result<(), u32> {
+/// The length of its memory.
+pub fn check(file: &[u8]) -> Result<u32, u32> {
     let length = file.len();
     if length < SHORTEST {
         return Err(BAD_CAPTURE);
@@ -37,7 +38,8 @@ pub fn check(file: &[u8]) -> Result<(), u32> {
         return Err(BAD_CAPTURE);
     }
     let words = read_words(&file[memory_length..memory_length + STATE])?;
-    check_core(&words, memory_length)
+    check_core(&words, memory_length)?;
+    Ok(memory_length as u32)
 }
 
 /// Bytes written.

@@ -38,7 +38,18 @@ pub fn run(state: &mut [u8], memory: &mut [u8], events: &[u8], budget: u32) -> u
     }))
 }
 
-/// The same for one step.
+/// The same run and answer, + 2^63 if the run reached past its memory.
+pub fn run_reach(state: &mut [u8], memory: &mut [u8], events: &[u8], budget: u32) -> u64 {
+    let mut core = match accept(state, memory, events, budget) {
+        Ok(core) => core,
+        Err(refusal) => return answer(Err(refusal)),
+    };
+    let (steps, reached) = core.run_reach(memory, events, budget);
+    capture::write_words(&core.to_words(), state);
+    answer(Ok(steps)) | (reached as u64) << 63
+}
+
+/// The same as `run` for one step.
 pub fn step(state: &mut [u8], memory: &mut [u8], event: u8) -> u64 {
     run(state, memory, &[event], 1)
 }
@@ -52,8 +63,9 @@ pub fn accept(state: &[u8], memory: &[u8], events: &[u8], budget: u32) -> Result
     Ok(Core::from_words(&words))
 }
 
-pub fn capture_check(file: &[u8]) -> u32 {
-    capture::check(file).err().unwrap_or(0)
+/// Refusal * 2^32 + the length of the capture's memory.
+pub fn capture_check(file: &[u8]) -> u64 {
+    answer(capture::check(file))
 }
 
 /// Refusal * 2^32 + bytes written.

@@ -21,7 +21,7 @@ pub enum Outcome {
 }
 
 impl Outcome {
-    /// The step reached past its memory.
+    /// The step reached past its memory: a fetch, a dcbz block or an aligned access outside raises one of these two.
     pub fn reached(self) -> bool {
         matches!(self, Outcome::Faulted(Fault::InstructionStorage | Fault::DataStorage { .. }, _))
     }
@@ -29,7 +29,8 @@ impl Outcome {
 
 impl Core {
     /// One step on a state, memory and event that no refusal meets.
-    #[inline]
+    // Two loops have it: a call in each step would slow them by two or three percent.
+    #[inline(always)]
     pub fn step(&mut self, memory: &mut [u8], event: u8) -> Outcome {
         if self.halt != 0 {
             return Outcome::AlreadyHalted;
@@ -67,10 +68,21 @@ impl Core {
 
     /// The number of steps taken: up to the one that halts, at most the budget.
     pub fn run(&mut self, memory: &mut [u8], events: &[u8], budget: u32) -> u32 {
+        self.play(memory, events, budget, |_| ())
+    }
+
+    /// The same, and whether a step of the run reached past memory.
+    pub fn run_reach(&mut self, memory: &mut [u8], events: &[u8], budget: u32) -> (u32, bool) {
+        let mut reached = false;
+        let steps = self.play(memory, events, budget, |outcome| reached |= outcome.reached());
+        (steps, reached)
+    }
+
+    fn play(&mut self, memory: &mut [u8], events: &[u8], budget: u32, mut see: impl FnMut(Outcome)) -> u32 {
         let mut steps = 0;
         while steps < budget && self.halt == 0 {
             let event = events.get(steps as usize).copied().unwrap_or(0);
-            self.step(memory, event);
+            see(self.step(memory, event));
             steps += 1;
         }
         steps

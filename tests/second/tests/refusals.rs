@@ -27,6 +27,9 @@ fn refusal(state: &[u8], memory_length: usize, events: &[u8], budget: u32) -> u6
     let before = memory.clone();
     let answer = second::run(&mut after, &mut memory, events, budget);
     assert!(answer >> 32 == 0 || (after == state && memory == before && answer as u32 == 0));
+    let (mut after_reach, mut memory_reach) = (state.to_vec(), before);
+    assert_eq!(second::run_reach(&mut after_reach, &mut memory_reach, events, budget), answer);
+    assert_eq!((after_reach, memory_reach), (after, memory));
     answer >> 32
 }
 
@@ -124,14 +127,16 @@ fn captures() {
     let file = &out[..64 + 156];
     assert_eq!((&file[..64], &file[64..208]), (&memory[..], &state[..]));
     assert_eq!(file[208..], [0, 0, 0, 156, 0, 0, 0, 64, 0, 0, 0, 1]);
-    assert_eq!(second::capture_check(file), 0);
-    for (place, number) in [(211, 7), (215, 7), (219, 7), (64 + 4 * IAR + 3, 2), (64 + 4 * HALT + 3, 3), (0, 0)] {
+    assert_eq!(second::capture_check(file), 64);
+    for (place, number) in [(211, 7), (215, 7), (219, 7), (64 + 4 * IAR + 3, 2), (64 + 4 * HALT + 3, 3)] {
         let mut spoilt = file.to_vec();
         spoilt[place] = spoilt[place].wrapping_add(9);
-        assert_eq!(second::capture_check(&spoilt), number, "{place}");
+        assert_eq!(second::capture_check(&spoilt), number << 32, "{place}");
     }
-    assert_eq!(second::capture_check(&file[1..]), 7);
-    assert_eq!(second::capture_check(&[]), 7);
+    let other = [&[9], &file[1..]].concat();
+    assert_eq!(second::capture_check(&other), 64, "any byte of memory");
+    assert_eq!(second::capture_check(&file[1..]), 7 << 32);
+    assert_eq!(second::capture_check(&[]), 7 << 32);
     let mut short = vec![0xEE; 64 + 155];
     assert_eq!(second::capture_write(&state, &memory, &mut short), 8 << 32);
     assert_eq!(second::capture_write(&state, &memory[..33], &mut short), 1 << 32);
@@ -142,13 +147,13 @@ fn captures() {
 }
 
 #[test]
-fn a_capture_of_a_bad_memory_size() {
-    for length in [33, (1 << 20) + 32] {
+fn captures_of_other_sizes() {
+    for (length, answer) in [(32, 32), (33, 1 << 32), (1 << 20, 1 << 20), ((1 << 20) + 32, 1 << 32)] {
         let mut file = vec![0; length + 156];
         let trailer = length + 144;
         for (i, word) in [156, length as u32, 1].into_iter().enumerate() {
             file[trailer + 4 * i..][..4].copy_from_slice(&word.to_be_bytes());
         }
-        assert_eq!(second::capture_check(&file), 1);
+        assert_eq!(second::capture_check(&file), answer);
     }
 }

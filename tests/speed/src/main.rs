@@ -1,5 +1,6 @@
-//! `speed [RUNS]`: steps a second of the linked library, of the plain interpreter `second` and of Unicorn where it is built
-//! in, on the same loops, and how many times as fast as `second` the others are. Each figure is the best of RUNS runs.
+//! `speed [RUNS]`: steps a second of the linked library (`core`, and `reach`, which tells whether it reached past its memory),
+//! of the plain interpreter `second` and of Unicorn where it is built in, on the same loops, and how many times as fast as
+//! `second` the others are. Each figure is the best of RUNS runs.
 
 mod loops;
 mod players;
@@ -16,8 +17,18 @@ const SIZE: usize = 1 << 12;
 fn main() {
     let runs = std::env::args().nth(1).and_then(|word| word.parse().ok()).unwrap_or(RUNS);
     println!("the best of {runs} runs; a ratio is one of speeds: 2.00 is twice as fast as second");
-    let heads =
-        ["loop", "M", "steps", "core steps/s", "second steps/s", "Unicorn steps/s", "core/second", "Unicorn/second"];
+    let heads = [
+        "loop",
+        "M",
+        "steps",
+        "core steps/s",
+        "reach steps/s",
+        "second steps/s",
+        "Unicorn steps/s",
+        "core/second",
+        "reach/second",
+        "Unicorn/second",
+    ];
     show(heads.map(String::from));
     for each in [ARITHMETIC, MEMORY, BRANCHES, LEDGER, ENABLED] {
         measure(&each, SIZE, STEPS, runs);
@@ -32,7 +43,7 @@ fn main() {
 
 fn measure(each: &Loop, size: usize, steps: u32, runs: u32) {
     let best = best(each, size, steps, runs);
-    let (core, second, unicorn) = (&best[0], &best[1], best.get(2));
+    let (core, reach, second, unicorn) = (&best[0], &best[1], &best[2], best.get(3));
     let rate = |seconds: &f64| format!("{:.0}", f64::from(steps) / seconds);
     let ratio = |seconds: &f64| format!("{:.2}", second / seconds);
     let none = || "-".to_string();
@@ -41,9 +52,11 @@ fn measure(each: &Loop, size: usize, steps: u32, runs: u32) {
         size.to_string(),
         steps.to_string(),
         rate(core),
+        rate(reach),
         rate(second),
         unicorn.map_or_else(none, rate),
         ratio(core),
+        ratio(reach),
         unicorn.map_or_else(none, ratio),
     ]);
 }
@@ -63,6 +76,9 @@ fn best(each: &Loop, size: usize, steps: u32, runs: u32) -> Vec<f64> {
     best
 }
 
-fn show([name, size, steps, core, second, unicorn, ratio, unicorn_ratio]: [String; 8]) {
-    println!("{name:10} {size:>7} {steps:>6} {core:>12} {second:>14} {unicorn:>15} {ratio:>11} {unicorn_ratio:>14}");
+fn show(cells: [String; 10]) {
+    const WIDTHS: [usize; 9] = [7, 6, 12, 13, 14, 15, 11, 12, 14];
+    let [name, rest @ ..] = cells;
+    let rest: Vec<_> = rest.iter().zip(WIDTHS).map(|(cell, width)| format!("{cell:>width$}")).collect();
+    println!("{name:10} {}", rest.join(" "));
 }

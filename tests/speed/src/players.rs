@@ -12,6 +12,7 @@ pub type Player = fn(&mut State, u32) -> f64;
 
 pub const PLAYERS: &[Player] = &[
     |state, steps| play(LINKED.run, state, steps),
+    |state, steps| play(LINKED.run_reach, state, steps),
     |state, steps| play(second::run, state, steps),
     #[cfg(feature = "unicorn")]
     emulate,

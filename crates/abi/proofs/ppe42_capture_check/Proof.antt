@@ -1,14 +1,17 @@
 -- `abi::ppe42_capture_check` meets its contract, by what its callees ensure. Assumes nothing.
-use Rattle.abi.specs.Boundary.{checkOf}
+use Rattle.abi.specs.Boundary.{checkAnswer}
+use Rattle.abi.proofs.Laws.{memory-small}
 use borrow.Author.Needs.{needs}
 use Rattle.abi.proofs.ppe42_capture_check.Statement.{statement}
 use Rattle.abi.proofs.ppe42_capture_check.Tie as tie
 
 pub ppe42-capture-check-spec : {M : Type 1} → statement M
-unfolding checkOf
+unfolding checkAnswer
 ppe42-capture-check-spec =
     tie.close
     (tie.spec
     (λ c κs. search needs)
     (λ c κs. search needs)
-    (λ c. rw (c .number .ensures, c .before .state-of .ensures)))
+    (λ c. rw (c .memory-part .ensures) (record { fits = memory-small _ }))
+    (λ c κs. search needs)
+    (λ c. rw (c .answer .ensures .0, c .before .before .state-of .ensures, c .before .memory-part .ensures)))

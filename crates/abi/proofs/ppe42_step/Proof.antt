@@ -12,10 +12,10 @@ ppe42-step-spec =
     tie.close
     (tie.spec
     (λ c κs. search needs)
-    (λ c. rw (ne-eqb _ _ (c .before .if1 .taken)) (c .answer .ensures, (refl, refl)))
+    (λ c. rw (ne-eqb _ _ (c .before .if1 .taken)) (c .answer .ensures .0, (refl, refl)))
     (λ c κs. search needs)
     (λ c κs. search needs)
     (λ c κs. search needs)
     (λ c. search needs)
     (λ c. search needs)
-    (λ c. rw (eq-eqb _ _ (c .before .before .before .before .before .before .before .before .before .before .if1 .left), ← (c .before .before .before .before .before .before .before .before .state-at .ensures), ← (c .before .before .before .before .before .step .ensures .0), ← (c .before .before .before .before .before .step .ensures .1)) (c .before .before .settle .ensures .0, (c .before .before .settle .ensures .1, refl))))
+    (λ c. rw (eq-eqb _ _ (c .before .before .before .before .before .before .before .before .before .before .if1 .left), ← (c .before .before .before .before .before .before .before .before .state-at .ensures), ← (c .before .before .before .before .before .step .ensures .0), ← (c .before .before .before .before .before .step .ensures .1)) (c .before .before .settle .ensures .0 .0, (c .before .before .settle .ensures .0 .1, refl))))

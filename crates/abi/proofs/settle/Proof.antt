@@ -12,5 +12,5 @@ settle-spec =
     (λ c κs. search needs)
     (λ c κs. search needs)
     (λ c. search needs)
-    (λ c. rw (← (c .before .before .before .before .before .accepts .ensures), c .before .before .before .before .if1 .taken) (c .before .before .before .before .before .before .answer .ensures, c .before .before .put-state .ensures))
-    (λ c. rw (← (c .before .accepts .ensures), c .if1 .left) (c .before .before .answer .ensures, refl)))
+    (λ c. rw (← (c .before .before .before .before .before .accepts .ensures), c .before .before .before .before .if1 .taken) ((c .before .before .before .before .before .before .answer .ensures .0, c .before .before .put-state .ensures), c .before .before .before .before .before .before .answer .ensures .1))
+    (λ c. rw (← (c .before .accepts .ensures), c .if1 .left) ((c .before .before .answer .ensures .0, refl), c .before .before .answer .ensures .1)))

@@ -1,0 +1,71 @@
+-- `run::reach::accepted_reach` meets its contract: what is left of the run is the run, and what reached is told. Assumes nothing.
+use Prim.Native.Nat.{_≤_, _-_}
+use native.Mathlib.Nat.{sub-zero}
+use mathlib.Core.Bool.{_||_}
+use mathlib.Core.Path.{_≡_, refl, _∙_}
+use lib.ListN.{length}
+use borrow.Author.Needs.{needs}
+use Rattle.run.specs.Run.{runOf, pastOf}
+use Rattle.run.proofs.Laws.{run-more, run-spent, run-halted, past-more, past-spent, past-halted, or-nothing}
+use Rattle.run.proofs.reach.accepted_reach.Statement.{statement}
+use Rattle.run.proofs.reach.accepted_reach.Tie as tie
+
+abbrev Inv-loop : tie.InvT-loop
+Inv-loop mem₀ events budget s₀ i₀ past₀ mem s i past =
+    (i ≤ budget) × ((length mem ≡ length mem₀) × ((runOf budget 0 events s₀ mem₀ ≡ runOf (budget - i) i events s mem) × (pastOf budget 0 events s₀ mem₀ ≡ (past || pastOf (budget - i) i events s mem))))
+
+abbrev μ-loop : tie.MeasureT-loop
+μ-loop mem₀ events budget s₀ i₀ past₀ mem s i past = budget - i
+
+loop-again : tie.Need-loop-again Inv-loop μ-loop
+loop-again c =
+    let at = c .before .before .before .before .before .before .before .before .before .before in
+    let ev = at .before .before .before .args .events .now in
+    let budget = at .before .before .before .args .budget in
+    let halt = c .before .before .before .before .before .before .before .if2 .left in (
+      search needs,
+      (
+        search needs,
+        (
+          at .loop .inv .1 .1 .0
+              ∙ (run-more ev (at .loop .s) (at .loop .mem) budget (at .loop .i) (search needs) halt
+              ∙ rw (← (c .before .before .before .before .before .before .event-at .ensures), ← (c .before .before .step .ensures .0), ← (c .before .before .step .ensures .1))),
+          at .loop .inv .1 .1 .1
+              ∙ (past-more ev (at .loop .s) (at .loop .mem) budget (at .loop .i) (at .loop .past) (search needs) halt
+              ∙ rw (← (c .before .before .before .before .before .before .event-at .ensures), ← (c .before .before .before .before .reaches .ensures), ← (c .before .before .step .ensures .0), ← (c .before .before .step .ensures .1))),
+        ),
+      ),
+    )
+
+returns : tie.Need-returns Inv-loop μ-loop
+returns c =
+    let at = c .before in
+    let ev = at .before .before .before .args .events .now in
+    let budget = at .before .before .before .args .budget in
+    rw (at .loop .inv .1 .1 .0, at .loop .inv .1 .1 .1, run-spent ev (at .loop .s) (at .loop .mem) budget (at .loop .i) (c .if1 .taken), past-spent ev (at .loop .s) (at .loop .mem) budget (at .loop .i) (c .if1 .taken), or-nothing (at .loop .past))
+    (refl, refl)
+
+returns-2 : tie.Need-returns-2 Inv-loop μ-loop
+returns-2 c =
+    let at = c .before .before .before in
+    let ev = at .before .before .before .args .events .now in
+    rw (at .loop .inv .1 .1 .0, at .loop .inv .1 .1 .1, run-halted ev (at .loop .s) (at .loop .mem) _ _ (c .if2 .taken), past-halted ev (at .loop .s) (at .loop .mem) _ _ (c .if2 .taken), or-nothing (at .loop .past))
+    (refl, refl)
+
+pub accepted-reach-spec : {M : Type 1} → statement M
+accepted-reach-spec =
+    tie.close
+    (tie.spec
+    Inv-loop
+    μ-loop
+    (λ c. (search needs, (refl, (rw sub-zero, rw sub-zero))))
+    (λ c κs. search needs)
+    (λ c κs. search needs)
+    (λ c κs. search needs)
+    (λ c. search needs)
+    (λ c. search needs)
+    loop-again
+    (λ c. search needs)
+    returns
+    (λ c. search needs)
+    returns-2)

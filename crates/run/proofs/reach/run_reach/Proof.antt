@@ -1,0 +1,20 @@
+-- `run::reach::run_reach` meets its contract: accepted or refused. Assumes nothing.
+use Rattle.run.specs.Outcome.{runOutcome, runMemory, runPast}
+use mathlib.Core.Path.{refl}
+use borrow.Author.Needs.{needs}
+use Rattle.run.proofs.reach.run_reach.Statement.{statement}
+use Rattle.run.proofs.reach.run_reach.Tie as tie
+
+pub run-reach-spec : {M : Type 1} → statement M
+unfolding runMemory runOutcome runPast
+run-reach-spec =
+    tie.close
+    (tie.spec
+    (λ c κs. search needs)
+    (λ c κs. search needs)
+    (λ c κs. search needs)
+    (λ c κs. search needs)
+    (λ c. search needs)
+    (λ c. rw (← (c .before .before .before .before .before .before .run-refusal .ensures), ← (c .before .before .before .before .before .accepts .ensures), c .before .before .before .before .if1 .taken) (c .before .before .accepted-reach .ensures .0, c .before .before .accepted-reach .ensures .1))
+    (λ c. search needs)
+    (λ c. rw (← (c .before .before .before .run-refusal .ensures), ← (c .before .before .accepts .ensures), c .before .if1 .left, c .refused .ensures) (refl, refl)))

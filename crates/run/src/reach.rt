@@ -1,0 +1,68 @@
+// The run that tells whether it reached past its memory.
+ghost use mathlib.Core.Path.{_≡_};
+ghost use Rattle.run.specs.Run.{runOf, pastOf};
+ghost use Rattle.run.specs.Outcome.{accepted, refusedWith, runOutcome, runMemory, runPast};
+use crate::outcome::Outcome;
+use crate::outcome::run_refusal;
+use crate::run::Stop;
+use crate::run::event_at;
+use crate::run::refused;
+use machine::refusal::Refusal;
+use machine::refusal::accepts;
+use machine::state::State;
+
+// A run's outcome, and whether it reached.
+pub struct Reached {
+    pub outcome: Outcome,
+    pub past: bool,
+}
+
+// The run's loop, each step asked before it is taken.
+fn accepted_reach(start: State, mem: &mut [u8], events: &[u8], budget: u32) -> Reached
+    ensures { λ r. ⌜ (r ≡ record { outcome = accepted (runOf budget 0 (now (events .entry)) start (now (mem .entry))); past = pastOf budget 0 (now (events .entry)) start (now (mem .entry)) }) × (now (mem .exit) ≡ runOf budget 0 (now (events .entry)) start (now (mem .entry)) .mem) ⌝ }
+{
+    let mut s = start;
+    let mut i = 0;
+    let mut past = false;
+    let stop = loop {
+        if budget <= i {
+            break Stop {
+                halt: s.halt,
+                steps: i,
+            };
+        }
+        if s.halt != 0 {
+            break Stop {
+                halt: s.halt,
+                steps: i,
+            };
+        }
+        let event = event_at(events, i);
+        past = past | s.reaches(&mem[..], event);
+        s = s.step(mem, event);
+        i += 1;
+    };
+    Reached {
+        outcome: Outcome {
+            refusal: Refusal::None,
+            state: s,
+            halt: stop.halt,
+            steps: stop.steps,
+        },
+        past,
+    }
+}
+
+pub fn run_reach(state: State, mem: &mut [u8], events: &[u8], budget: u32) -> Reached
+    ensures { λ r. ⌜ (r ≡ record { outcome = runOutcome state (now (mem .entry)) (now (events .entry)) budget; past = runPast state (now (mem .entry)) (now (events .entry)) budget }) × (now (mem .exit) ≡ runMemory state (now (mem .entry)) (now (events .entry)) budget) ⌝ }
+{
+    let refusal = run_refusal(state, &mem[..], events, budget);
+    if accepts(refusal) {
+        accepted_reach(state, mem, events, budget)
+    } else {
+        Reached {
+            outcome: refused(state, refusal),
+            past: false,
+        }
+    }
+}
