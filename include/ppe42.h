@@ -29,7 +29,7 @@ extern "C" {
 
 enum {
     PPE42_STATE = 144,   /* bytes of a state */
-    PPE42_TRAILER = 156, /* bytes of a capture after its memory: the state, and three words */
+    PPE42_TRAILER = 156, /* bytes of a capture after its memory: the state and, after that, three words */
     PPE42_BLOCK = 32,    /* a memory's length is a multiple of this, and no less */
     PPE42_MOST = 1048576 /* most bytes of memory, steps of a budget, bytes of an event list */
 };
@@ -100,7 +100,8 @@ enum ppe42_refused {
     PPE42_REFUSED_OUTPUT = 8    /* an output shorter than memory_len + 156 */
 };
 
-/* An answer is the refusal times 2^32 plus a count, which is 0 where there is a refusal; ppe42_run_reach may add 2^63. */
+/* The answer of a run, a step or a capture function is the refusal times 2^32 plus a count, which is 0 where there is a
+ * refusal; ppe42_run_reach may add 2^63. ppe42_legal and ppe42_rewrite have answers of their own. */
 static inline uint32_t ppe42_refusal(uint64_t answer) { return (uint32_t)(answer >> 32) & 0x7FFFFFFF; }
 static inline uint32_t ppe42_count(uint64_t answer) { return (uint32_t)answer; }
 static inline int ppe42_reached(uint64_t answer) { return (int)(answer >> 63); }
@@ -121,7 +122,8 @@ uint64_t ppe42_run(uint8_t *state, size_t state_len, uint8_t *memory, size_t mem
                    size_t events_len, uint32_t budget);
 
 /* The same run with the same answer, plus 2^63 if it reached past its memory: a fetch, a dcbz block, or a data access that
- * is no alignment interrupt fell outside. If it did not, more memory gives the same run. It is slower than ppe42_run. */
+ * is no alignment interrupt fell outside. If it did not, more memory behind the same bytes gives the same run. It is slower
+ * than ppe42_run. */
 uint64_t ppe42_run_reach(uint8_t *state, size_t state_len, uint8_t *memory, size_t memory_len, const uint8_t *events,
                          size_t events_len, uint32_t budget);
 

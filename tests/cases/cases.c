@@ -74,7 +74,7 @@ static uint32_t number(const char *text, int base) {
 }
 
 static struct piece *piece_of(struct pieces *pieces, uint32_t at) {
-    if (pieces->count == sizeof pieces->piece / sizeof *pieces->piece) malformed("too many", "bytes of memory");
+    if (pieces->count == sizeof pieces->piece / sizeof *pieces->piece) malformed("more than 48 lines of code and mem", "make two cases of it");
     struct piece *piece = &pieces->piece[pieces->count++];
     *piece = (struct piece){.at = at};
     return piece;
@@ -245,7 +245,7 @@ static void read_bytes(struct piece *piece, char *rest) {
     for (char *part = strtok(rest, " \t"); part; part = strtok(NULL, " \t")) {
         for (; *part; part += 2) {
             char pair[3] = {part[0], part[1], 0};
-            if (!pair[1] || piece->count == sizeof piece->bytes) malformed("no bytes", part);
+            if (!pair[1] || piece->count == sizeof piece->bytes) malformed("bytes are pairs of digits, at most 32 to a line", part);
             piece->bytes[piece->count++] = (uint8_t)number(pair, 16);
         }
     }
@@ -296,7 +296,7 @@ static void read_line(struct test *test, char *text) {
     char *rest = split(text);
     if (!strcmp(text, "case")) {
         finish(test);
-        if (!section) malformed("a case without its section", rest);
+        if (!section) malformed("no # behind the name, with what the case goes by", rest);
         begin(test, rest);
     } else if (!test->open) {
         malformed("no case yet", text);

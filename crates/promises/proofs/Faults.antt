@@ -119,7 +119,8 @@ only-trans : {s t u : State} → OnlyInterrupt s t → OnlyInterrupt t u → Onl
 only-trans p q =
     record { gpr = q .gpr ∙ p .gpr; cr = q .cr ∙ p .cr; ctr = q .ctr ∙ p .ctr; dacr = q .dacr ∙ p .dacr; dbcr = q .dbcr ∙ p .dbcr; dec = q .dec ∙ p .dec; ivpr = q .ivpr ∙ p .ivpr; lr = q .lr ∙ p .lr; pir = q .pir ∙ p .pir; pvr = q .pvr ∙ p .pvr; sprg0 = q .sprg0 ∙ p .sprg0; tcr = q .tcr ∙ p .tcr; tsr = q .tsr ∙ p .tsr; xer = q .xer ∙ p .xer }
 
-entered-only : (s : State) (v : Vector) → OnlyInterrupt s (enteredOf s v)
+-- an asynchronous interrupt touches its own registers alone
+pub entered-only : (s : State) (v : Vector) → OnlyInterrupt s (enteredOf s v)
 unfolding enteredOf with
 entered-only s v = changed s _ _ _ _ _ _ _
 
