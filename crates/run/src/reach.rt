@@ -1,7 +1,7 @@
 // The run that tells whether it reached past its memory.
 ghost use mathlib.Core.Path.{_≡_};
 ghost use Rattle.run.specs.Run.{runOf, pastOf};
-ghost use Rattle.run.specs.Outcome.{accepted, refusedWith, runOutcome, runMemory, runPast};
+ghost use Rattle.run.specs.Outcome.{accepted, runOutcome, runMemory, runPast};
 use crate::outcome::Outcome;
 use crate::outcome::run_refusal;
 use crate::run::Stop;
