@@ -11,7 +11,10 @@ use Rattle.insn.specs.declared.instr.Decoded.{Decoded}
 use Rattle.machine.specs.Refusal.{numberOf, acceptsOf}
 use Rattle.machine.specs.declared.state.State.{State}
 use Rattle.machine.specs.declared.refusal.Refusal.{Refusal}
-use Rattle.run.specs.Outcome.{runOutcome, runMemory, runPast, stepOutcome, stepMemory}
+use Rattle.tell.specs.Told.{toldOf, codeOf}
+use Rattle.tell.specs.Uses.{useOf}
+use Rattle.tell.specs.declared.uses.Use.{Use}
+use Rattle.run.specs.Outcome.{runOutcome, runMemory, runPast, stepRefusal, stepOutcome, stepMemory}
 use Rattle.run.specs.declared.outcome.Outcome.{Outcome}
 use Rattle.capture.specs.Words.{wordsAt, wordBytes, stateOf, wordsOf}
 use Rattle.capture.specs.Read.{readOf, partOf}
@@ -65,6 +68,22 @@ stepState s m e = pick (isState s) (stored s (stepOutcome (lentState s) m e)) s
 
 unfoldable pub stepLent : List ℕ → List ℕ → ℕ → List ℕ
 stepLent s m e = pick (isState s) (stepMemory (lentState s) m e) m
+
+-- what the step would do, as a count; refused, none
+unfoldable pub tellAnswer : List ℕ → List ℕ → ℕ → ℕ
+tellAnswer s m e =
+    let r = stepRefusal (lentState s) m e in
+    pick (isState s) (answerOf r (pick (acceptsOf r) (codeOf (toldOf (lentState s) m e)) 0)) (answerOf Refusal.Capture 0)
+
+-- the first address below, the bytes above, and 2^63 for a write
+abbrev pub packedOf : Use → ℕ
+packedOf Use.Idle = 0
+packedOf (Use.Reads a n) = n * 2 ^ 32 + a
+packedOf (Use.Writes a n) = 2 ^ 63 + (n * 2 ^ 32 + a)
+
+-- the data access that the step would try; refused, none
+unfoldable pub accessAnswer : List ℕ → List ℕ → ℕ → ℕ
+accessAnswer s m e = pick (isState s && acceptsOf (stepRefusal (lentState s) m e)) (packedOf (useOf (lentState s) m e)) 0
 
 -- M is the length of the memory part, which is empty where the capture is refused
 unfoldable pub checkAnswer : List ℕ → ℕ

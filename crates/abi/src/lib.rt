@@ -4,12 +4,13 @@ ghost use mathlib.Core.Path.{_≡_};
 ghost use Prim.Native.Nat.{_<_, _^_};
 ghost use lib.ListN.{length};
 ghost use Rattle.insn.specs.Read.{decodeOf};
-ghost use Rattle.abi.specs.Boundary.{legalOf, rewriteOf, answerOf, stored, runAnswer, runState, runLent, reachAnswer, stepAnswer, stepState, stepLent, checkAnswer, writeAnswer, writeOut};
+ghost use Rattle.abi.specs.Boundary.{legalOf, rewriteOf, answerOf, stored, runAnswer, runState, runLent, reachAnswer, stepAnswer, stepState, stepLent, tellAnswer, packedOf, accessAnswer, checkAnswer, writeAnswer, writeOut};
 use insn::instr::Decoded;
 use machine::refusal::Refusal;
 use machine::refusal::accepts;
 use machine::refusal::number;
 use run::outcome::Outcome;
+use tell::uses::Use;
 
 // A refusal's number times 2^32, and a count.
 fn answer(refusal: Refusal, count: u32) -> u64
@@ -33,6 +34,19 @@ fn settle(state: &mut [u8], outcome: Outcome) -> u64
         return given;
     }
     given
+}
+
+// An access: its first address, 2^32 times its length, and 2^63 for a write.
+fn pack(access: Use) -> u64
+    ensures { λ r. ⌜ r ≡ packedOf access ⌝ }
+{
+    match access {
+        Use::Idle => 0,
+        Use::Reads { at, bytes } => bytes as u64 * 0x1_0000_0000 + at as u64,
+        Use::Writes { at, bytes } => {
+            0x8000_0000_0000_0000 + (bytes as u64 * 0x1_0000_0000 + at as u64)
+        }
+    }
 }
 
 // 1 for a legal word, 0 for an illegal one.
@@ -104,6 +118,39 @@ pub extern "C" fn ppe42_step(state: &mut [u8], memory: &mut [u8], event: u8) -> 
     }
     let start = capture::words::state_at(&state[..], 0);
     settle(state, run::run::step(start, memory, event))
+}
+
+// What that step would do, by its number.
+#[no_mangle]
+pub extern "C" fn ppe42_tell(state: &[u8], memory: &[u8], event: u8) -> u64
+    ensures { λ r. ⌜ r ≡ tellAnswer (now (state .entry)) (now (memory .entry)) event ⌝ }
+{
+    if state.len() != 144 {
+        return answer(Refusal::Capture, 0);
+    }
+    let start = capture::words::state_at(state, 0);
+    let refusal = run::outcome::step_refusal(start, memory, event);
+    if accepts(refusal) {
+        let told = tell::told::tell(start, memory, event);
+        return answer(refusal, tell::told::code(told));
+    }
+    answer(refusal, 0)
+}
+
+// The data access that it would try.
+#[no_mangle]
+pub extern "C" fn ppe42_access(state: &[u8], memory: &[u8], event: u8) -> u64
+    ensures { λ r. ⌜ r ≡ accessAnswer (now (state .entry)) (now (memory .entry)) event ⌝ }
+{
+    if state.len() != 144 {
+        return 0;
+    }
+    let start = capture::words::state_at(state, 0);
+    let refusal = run::outcome::step_refusal(start, memory, event);
+    if accepts(refusal) {
+        return pack(tell::uses::used(start, memory, event));
+    }
+    0
 }
 
 // The refusal that reading a capture gives, or the length of its memory.

@@ -123,6 +123,10 @@ run-left (suc n) i ev s m =
 pub step-accepted : (s : State) (m : List ℕ) (e : ℕ) → refusalOf s ≡ Refusal.None → refusalOf (stepOf s m e .st) ≡ Refusal.None
 step-accepted s m e h = sound-accepted (step-left s m e .st (accepted-sound s h))
 
+-- from any state, a step keeps the memory's length
+pub step-length : (s : State) (m : List ℕ) (e : ℕ) → length (stepOf s m e .mem) ≡ length m
+step-length s m e = step-left s m e .mem
+
 -- two checks in a row that refuse nothing
 pub first-none : (a b : Refusal) → orElse a b ≡ Refusal.None → a ≡ Refusal.None
 first-none Refusal.None b h = refl

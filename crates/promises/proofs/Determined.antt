@@ -8,6 +8,10 @@ use Rattle.insn.specs.declared.instr.Instr.{Instr}
 use Rattle.insn.specs.declared.instr.Decoded.{Decoded}
 use Rattle.insn.specs.declared.instr.Written.{Written}
 use Rattle.machine.specs.declared.state.State.{State}
+use Rattle.tell.specs.Told.{toldOf}
+use Rattle.tell.specs.Uses.{useOf}
+use Rattle.tell.specs.declared.told.Told.{Told}
+use Rattle.tell.specs.declared.uses.Use.{Use}
 use Rattle.run.specs.Outcome.{runOutcome, runMemory, runPast, stepOutcome, stepMemory}
 use Rattle.run.specs.Lent.{answerOf}
 use Rattle.run.specs.declared.outcome.Outcome.{Outcome}
@@ -17,7 +21,7 @@ use Rattle.capture.specs.Read.{readOf, partOf}
 use Rattle.capture.specs.Write.{writtenOf as captureWritten, outOf}
 use Rattle.capture.specs.declared.read.Read.{Read}
 use Rattle.capture.specs.declared.write.Written.{Written as CaptureWritten}
-use Rattle.abi.specs.Boundary.{legalOf, rewriteOf, runAnswer, runState, runLent, reachAnswer, stepAnswer, stepState, stepLent, checkAnswer, writeAnswer, writeOut}
+use Rattle.abi.specs.Boundary.{legalOf, rewriteOf, runAnswer, runState, runLent, reachAnswer, stepAnswer, stepState, stepLent, tellAnswer, accessAnswer, checkAnswer, writeAnswer, writeOut}
 
 -- a contract that is an equation has one answer
 one : {A : Type 0} {x y z : A} → x ≡ z → y ≡ z → x ≡ y
@@ -55,6 +59,12 @@ module _ (s : State) (m : List ℕ) where
       → (r ≡ q) × ((s′ ≡ t′) × (m′ ≡ n′))
   lent-determined e r q s′ t′ m′ n′ = three
 
+  pub told-determined : (e : ℕ) (r q : Told) → r ≡ toldOf s m e → q ≡ toldOf s m e → r ≡ q
+  told-determined e r q = one
+
+  pub use-determined : (e : ℕ) (r q : Use) → r ≡ useOf s m e → q ≡ useOf s m e → r ≡ q
+  use-determined e r q = one
+
   pub capture-write-determined : (out : List ℕ) (r q : CaptureWritten) (o′ p′ : List ℕ)
       → (r ≡ captureWritten s m out) × (o′ ≡ outOf s m out) → (q ≡ captureWritten s m out) × (p′ ≡ outOf s m out) → (r ≡ q) × (o′ ≡ p′)
   capture-write-determined out r q o′ p′ = two
@@ -90,6 +100,12 @@ module _ (s m : List ℕ) where
       → (r ≡ stepAnswer s m e) × ((s′ ≡ stepState s m e) × (m′ ≡ stepLent s m e)) → (q ≡ stepAnswer s m e) × ((t′ ≡ stepState s m e) × (n′ ≡ stepLent s m e))
       → (r ≡ q) × ((s′ ≡ t′) × (m′ ≡ n′))
   c-step-determined e r q s′ t′ m′ n′ = three
+
+  pub c-tell-determined : (e r q : ℕ) → r ≡ tellAnswer s m e → q ≡ tellAnswer s m e → r ≡ q
+  c-tell-determined e r q = one
+
+  pub c-access-determined : (e r q : ℕ) → r ≡ accessAnswer s m e → q ≡ accessAnswer s m e → r ≡ q
+  c-access-determined e r q = one
 
   pub c-write-determined : (out : List ℕ) (r q : ℕ) (o′ p′ : List ℕ)
       → (r ≡ writeAnswer s m out) × (o′ ≡ writeOut s m out) → (q ≡ writeAnswer s m out) × (p′ ≡ writeOut s m out) → (r ≡ q) × (o′ ≡ p′)

@@ -31,31 +31,33 @@ use Rattle.machine.specs.declared.interrupt.Cause.{Cause}
 use Rattle.machine.specs.declared.interrupt.Vector.{Vector}
 use Rattle.machine.specs.declared.interrupt.Halt.{Halt}
 use Rattle.machine.specs.declared.step.Pending.{Pending}
-use Rattle.promises.specs.Fault.{nothing, raises, loadRaises, storeRaises, loadStoreRaises, cacheRaises, executeRaises, decodedRaises, fetchedRaises, raisedOf, faulted, OnlyInterrupt}
+use Rattle.tell.specs.Fault.{loadRaises, storeRaises, loadStoreRaises, cacheRaises, executeRaises, decodedRaises, fetchedRaises, raisedOf}
+use Rattle.tell.specs.declared.fault.Raised.{Raised}
+use Rattle.promises.specs.Fault.{faulted, OnlyInterrupt}
 
 module _ (s : State) (m : List ℕ) (c : Cause) where
   -- nothing raised is no fault
-  quiet : {A : Type 0} → nothing ≡ raises c → A
+  quiet : {A : Type 0} → Raised.Nothing ≡ Raised.Raises c → A
   quiet e = let z : _≡_ {A = ℕ} 0 1 = cc in absurd (omega arith)
 
-  load-faults : (l : Loaded) (rt : ℕ) (u : Bool) (ra ea : ℕ) → loadRaises l ea ≡ raises c → loadedState s l rt u ra ea ≡ interruptedOf s c
+  load-faults : (l : Loaded) (rt : ℕ) (u : Bool) (ra ea : ℕ) → loadRaises l ea ≡ Raised.Raises c → loadedState s l rt u ra ea ≡ interruptedOf s c
   load-faults (Loaded.Value v) rt u ra ea e = quiet e
   load-faults Loaded.Unaligned rt u ra ea e = let d : Cause.Alignment ea false ≡ c = cc in ap (interruptedOf s) d
   load-faults Loaded.Outside rt u ra ea e = let d : Cause.DataStorage ea false ≡ c = cc in ap (interruptedOf s) d
 
-  store-faults : (k : Access) (u : Bool) (ra ea a : ℕ) (bs : List ℕ) → storeRaises k ea ≡ raises c
+  store-faults : (k : Access) (u : Bool) (ra ea a : ℕ) (bs : List ℕ) → storeRaises k ea ≡ Raised.Raises c
       → (storedState s k u ra ea ≡ interruptedOf s c) × (written k m a bs ≡ m)
   store-faults Access.Served u ra ea a bs e = quiet e
   store-faults Access.Unaligned u ra ea a bs e = let d : Cause.Alignment ea true ≡ c = cc in (ap (interruptedOf s) d, refl)
   store-faults Access.Outside u ra ea a bs e = let d : Cause.DataStorage ea true ≡ c = cc in (ap (interruptedOf s) d, refl)
 
-  clear-faults : (k : Access) (ea a : ℕ) (bs : List ℕ) → storeRaises k ea ≡ raises c
+  clear-faults : (k : Access) (ea a : ℕ) (bs : List ℕ) → storeRaises k ea ≡ Raised.Raises c
       → (clearedState s k ea ≡ interruptedOf s c) × (written k m a bs ≡ m)
   clear-faults Access.Served ea a bs e = quiet e
   clear-faults Access.Unaligned ea a bs e = let d : Cause.Alignment ea true ≡ c = cc in (ap (interruptedOf s) d, refl)
   clear-faults Access.Outside ea a bs e = let d : Cause.DataStorage ea true ≡ c = cc in (ap (interruptedOf s) d, refl)
 
-  load-store-faults : (i : LoadStore) → loadStoreRaises s m i ≡ raises c → faulted s m c (loadStoreOf s m i)
+  load-store-faults : (i : LoadStore) → loadStoreRaises s m i ≡ Raised.Raises c → faulted s m c (loadStoreOf s m i)
   unfolding loadStoreOf loadAt storeAt storedOf
   load-store-faults (LoadStore.Load w u rt ra d) e = (load-faults (loadOf m (offsetEa s ra d) w) rt u ra (offsetEa s ra d) e, refl)
   load-store-faults (LoadStore.LoadIndexed w rt ra rb) e = (load-faults (loadOf m (indexedEa s ra rb) w) rt false ra (indexedEa s ra rb) e, refl)
@@ -64,20 +66,20 @@ module _ (s : State) (m : List ℕ) (c : Cause) where
   load-store-faults (LoadStore.StoreIndexed w rs ra rb) e =
       store-faults (accessOf (length m) (indexedEa s ra rb) (bytes w)) false ra (indexedEa s ra rb) (indexedEa s ra rb) (bytesOf w (gprOf s rs)) e
 
-  cache-faults : (op : CacheOp) (ra rb : ℕ) → cacheRaises s m op ra rb ≡ raises c → faulted s m c (cacheOf s m op ra rb)
+  cache-faults : (op : CacheOp) (ra rb : ℕ) → cacheRaises s m op ra rb ≡ Raised.Raises c → faulted s m c (cacheOf s m op ra rb)
   unfolding cacheOf clearAt clearedOf
   cache-faults CacheOp.Dcbf ra rb e = quiet e
   cache-faults CacheOp.Dcbi ra rb e = quiet e
   cache-faults CacheOp.Dcbt ra rb e = quiet e
   cache-faults CacheOp.Dcbz ra rb e = clear-faults (accessOf (length m) (blockAt (indexedEa s ra rb)) 32) (indexedEa s ra rb) (blockAt (indexedEa s ra rb)) _ e
 
-  trap-cases : (w : ℕ) (p q : Bool) (t u : State) → pick p nothing (pick q nothing (raises (Cause.Program w true))) ≡ raises c
+  trap-cases : (w : ℕ) (p q : Bool) (t u : State) → pick p Raised.Nothing (pick q Raised.Nothing (Raised.Raises (Cause.Program w true))) ≡ Raised.Raises c
       → pick p t (pick q u (interruptedOf s (Cause.Program w true))) ≡ interruptedOf s c
   trap-cases w true q t u e = quiet e
   trap-cases w false true t u e = quiet e
   trap-cases w false false t u e = let d : Cause.Program w true ≡ c = cc in ap (interruptedOf s) d
 
-  execute-faults : (w : ℕ) (i : Instr) → executeRaises s m w i ≡ raises c → faulted s m c (executeOf s m w i)
+  execute-faults : (w : ℕ) (i : Instr) → executeRaises s m w i ≡ Raised.Raises c → faulted s m c (executeOf s m w i)
   unfolding executeOf trapOf
   execute-faults w (Instr.Arithmetic i) e = quiet e
   execute-faults w (Instr.Logical i) e = quiet e
@@ -89,23 +91,23 @@ module _ (s : State) (m : List ℕ) (c : Cause) where
   execute-faults w (Instr.System i) e = quiet e
   execute-faults w (Instr.Cache op hint ra rb) e = cache-faults op ra rb e
 
-  decoded-faults : (w : ℕ) (d : Decoded) → decodedRaises s m w d ≡ raises c → faulted s m c (decodedOf s m w d)
+  decoded-faults : (w : ℕ) (d : Decoded) → decodedRaises s m w d ≡ Raised.Raises c → faulted s m c (decodedOf s m w d)
   decoded-faults w (Decoded.Insn i) e = execute-faults w i e
   decoded-faults w Decoded.Illegal e = let d : Cause.Program w false ≡ c = cc in (ap (interruptedOf s) d, refl)
 
-  fetched-faults : (l : Loaded) → fetchedRaises s m l ≡ raises c → faulted s m c (fetchedOf s m l)
+  fetched-faults : (l : Loaded) → fetchedRaises s m l ≡ Raised.Raises c → faulted s m c (fetchedOf s m l)
   fetched-faults (Loaded.Value w) e = decoded-faults w (decodeOf w) e
   fetched-faults Loaded.Unaligned e = let d : Cause.InstructionStorage ≡ c = cc in (ap (interruptedOf s) d, refl)
   fetched-faults Loaded.Outside e = let d : Cause.InstructionStorage ≡ c = cc in (ap (interruptedOf s) d, refl)
 
   -- line 6: what a fault leaves
-  pub running-faults : raisedOf s m ≡ raises c → faulted s m c (runningOf s m)
+  pub running-faults : raisedOf s m ≡ Raised.Raises c → faulted s m c (runningOf s m)
   unfolding raisedOf runningOf
   running-faults e = fetched-faults (fetchOf m (s .iar)) e
 
 -- a whole step that gets to line 6 and faults there: of the state that line 2 left, only what the interrupt sets is changed
 pub step-faults : (s : State) (m : List ℕ) (e : ℕ) (c : Cause) → s .halt ≡ 0 → actsOf s e ≡ false → highestOf (tickedOf s e) e ≡ Pending.Nothing
-    → bitAt (tickedOf s e .msr) 13 ≡ false → raisedOf (tickedOf s e) m ≡ raises c → faulted (tickedOf s e) m c (stepOf s m e)
+    → bitAt (tickedOf s e .msr) 13 ≡ false → raisedOf (tickedOf s e) m ≡ Raised.Raises c → faulted (tickedOf s e) m c (stepOf s m e)
 unfolding stepOf countedOf awakeOf
 step-faults s m e c h a p w r = rw (eq-eqb (s .halt) 0 h, a, p, w) (running-faults (tickedOf s e) m c r)
 

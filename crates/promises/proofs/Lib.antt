@@ -6,6 +6,7 @@ pub mod Demands
 pub mod Clean
 pub mod Sound
 pub mod Accepted
+pub mod Told
 pub mod Determined
 pub mod Lent
 pub mod Worked

@@ -34,7 +34,9 @@ use Rattle.machine.specs.Timer.{tickedOf, actsOf, actedOf}
 use Rattle.machine.specs.Step.{executeOf, decodedOf, fetchedOf, runningOf, awakeOf, highestOf, interruptibleOf, countedOf, stepOf}
 use Rattle.machine.specs.declared.state.State.{State}
 use Rattle.machine.specs.declared.step.Pending.{Pending}
-use Rattle.promises.specs.Reach.{Span, Use, idle, reads, writes, touched, touchedAt, loadStoreUse, cacheUse, executeUse, decodedUse, fetchedUse, readBy, writtenBy, runningReads, runningWrites, free, executes, readsOf, writesOf, Inside, Misses, Agree, Alike}
+use Rattle.tell.specs.Uses.{loadStoreUse, cacheUse, executeUse, decodedUse, fetchedUse, free, executes}
+use Rattle.tell.specs.declared.uses.Use.{Use}
+use Rattle.promises.specs.Reach.{Span, touched, touchedAt, readBy, writtenBy, runningReads, runningWrites, readsOf, writesOf, Inside, Misses, Agree, Alike}
 
 -- ---- inside
 
@@ -51,9 +53,9 @@ both-inside n [] ys p q = q
 both-inside n (x ∷ xs) ys p q = (p .0, both-inside n xs ys (p .1) q)
 
 use-inside : (m : List ℕ) (u : Use) → Inside (length m) (readBy m u) × Inside (length m) (writtenBy m u)
-use-inside m idle = (tt, tt)
-use-inside m (reads a n) = (at-inside m a n, tt)
-use-inside m (writes a n) = (tt, at-inside m a n)
+use-inside m Use.Idle = (tt, tt)
+use-inside m (Use.Reads a n) = (at-inside m a n, tt)
+use-inside m (Use.Writes a n) = (tt, at-inside m a n)
 
 picked-inside : (n : ℕ) (b : Bool) (xs : List Span) → Inside n xs → Inside n (pick b xs [])
 picked-inside n true xs p = p

@@ -1,3 +1,4 @@
 pub mod Fault
 pub mod Reach
+pub mod Told
 pub mod Growth

@@ -1,29 +1,17 @@
 -- What a step reads and writes: the bytes of lent memory that its fetch and its data access touch.
 use Prim.Native.Nat.{ℕ, _+_, _<_, _≤_}
-use mathlib.Core.Bool.{Bool, true, false, not, _&&_}
 use mathlib.Core.List.{List, [], _∷_, _++_}
 use mathlib.Core.Path.{_≡_}
 use mathlib.Core.Logic.{_⊎_}
-use lib.Dec.{eqb}
 use lib.ListN.{length, getD}
-use Rattle.word.specs.Bits.{bitAt}
-use Rattle.word.specs.Width.{bytes}
 use Rattle.memory.specs.Access.{pick, accessOf}
 use Rattle.memory.specs.Load.{fetchOf}
-use Rattle.memory.specs.Store.{blockAt}
 use Rattle.memory.specs.declared.access.Access.{Access}
-use Rattle.memory.specs.declared.load.Loaded.{Loaded}
-use Rattle.insn.specs.Read.{decodeOf}
-use Rattle.insn.specs.declared.instr.Instr.{Instr}
-use Rattle.insn.specs.declared.instr.Decoded.{Decoded}
-use Rattle.insn.specs.declared.instr.LoadStore.{LoadStore}
-use Rattle.insn.specs.declared.instr.CacheOp.{CacheOp}
 use Rattle.machine.specs.After.{After}
-use Rattle.machine.specs.LoadStore.{offsetEa, indexedEa}
-use Rattle.machine.specs.Timer.{tickedOf, actsOf}
-use Rattle.machine.specs.Step.{highestOf}
+use Rattle.machine.specs.Timer.{tickedOf}
 use Rattle.machine.specs.declared.state.State.{State}
-use Rattle.machine.specs.declared.step.Pending.{Pending}
+use Rattle.tell.specs.Uses.{fetchedUse, executes}
+use Rattle.tell.specs.declared.uses.Use.{Use}
 
 -- some bytes from an address on
 pub record Span : Type 0 where
@@ -39,53 +27,15 @@ touched Access.Outside a n = []
 abbrev pub touchedAt : List ℕ → ℕ → ℕ → List Span
 touchedAt m a n = touched (accessOf (length m) a n) a n
 
--- what an instruction asks of the memory: nothing, or to read or write some bytes from an address on
-pub data Use : Type 0 where
-  idle : Use
-  reads : ℕ → ℕ → Use
-  writes : ℕ → ℕ → Use
-
-abbrev pub loadStoreUse : State → LoadStore → Use
-loadStoreUse s (LoadStore.Load w u rt ra d) = reads (offsetEa s ra d) (bytes w)
-loadStoreUse s (LoadStore.LoadIndexed w rt ra rb) = reads (indexedEa s ra rb) (bytes w)
-loadStoreUse s (LoadStore.Store w u rs ra d) = writes (offsetEa s ra d) (bytes w)
-loadStoreUse s (LoadStore.StoreIndexed w rs ra rb) = writes (indexedEa s ra rb) (bytes w)
-
-abbrev pub cacheUse : State → CacheOp → ℕ → ℕ → Use
-cacheUse s CacheOp.Dcbf ra rb = idle
-cacheUse s CacheOp.Dcbi ra rb = idle
-cacheUse s CacheOp.Dcbt ra rb = idle
-cacheUse s CacheOp.Dcbz ra rb = writes (blockAt (indexedEa s ra rb)) 32
-
-abbrev pub executeUse : State → Instr → Use
-executeUse s (Instr.Arithmetic i) = idle
-executeUse s (Instr.Logical i) = idle
-executeUse s (Instr.Compare i) = idle
-executeUse s (Instr.Rotate i) = idle
-executeUse s (Instr.LoadStore i) = loadStoreUse s i
-executeUse s (Instr.Branch i) = idle
-executeUse s (Instr.Trap to ra rb tg) = idle
-executeUse s (Instr.System i) = idle
-executeUse s (Instr.Cache op hint ra rb) = cacheUse s op ra rb
-
-abbrev pub decodedUse : State → Decoded → Use
-decodedUse s (Decoded.Insn i) = executeUse s i
-decodedUse s Decoded.Illegal = idle
-
-abbrev pub fetchedUse : State → Loaded → Use
-fetchedUse s (Loaded.Value w) = decodedUse s (decodeOf w)
-fetchedUse s Loaded.Unaligned = idle
-fetchedUse s Loaded.Outside = idle
-
 abbrev pub readBy : List ℕ → Use → List Span
-readBy m idle = []
-readBy m (reads a n) = touchedAt m a n
-readBy m (writes a n) = []
+readBy m Use.Idle = []
+readBy m (Use.Reads a n) = touchedAt m a n
+readBy m (Use.Writes a n) = []
 
 abbrev pub writtenBy : List ℕ → Use → List Span
-writtenBy m idle = []
-writtenBy m (reads a n) = []
-writtenBy m (writes a n) = touchedAt m a n
+writtenBy m Use.Idle = []
+writtenBy m (Use.Reads a n) = []
+writtenBy m (Use.Writes a n) = touchedAt m a n
 
 -- line 6: the fetch, then what the instruction reads
 unfoldable pub runningReads : State → List ℕ → List Span
@@ -93,14 +43,6 @@ runningReads s m = touchedAt m (s .iar) 4 ++ readBy m (fetchedUse s (fetchOf m (
 
 unfoldable pub runningWrites : State → List ℕ → List Span
 runningWrites s m = writtenBy m (fetchedUse s (fetchOf m (s .iar)))
-
-abbrev pub free : Pending → Bool
-free (Pending.Take v) = false
-free Pending.Nothing = true
-
--- whether a step gets to line 6
-unfoldable pub executes : State → ℕ → Bool
-executes s e = eqb (s .halt) 0 && not (actsOf s e) && free (highestOf (tickedOf s e) e) && not (bitAt (tickedOf s e .msr) 13)
 
 unfoldable pub readsOf : State → List ℕ → ℕ → List Span
 readsOf s m e = pick (executes s e) (runningReads (tickedOf s e) m) []

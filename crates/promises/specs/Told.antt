@@ -1,0 +1,31 @@
+-- What is told of a step, held against the step.
+use Prim.Native.Nat.{ℕ, _+_, _<_, _≤_}
+use mathlib.Core.List.{List}
+use mathlib.Core.Path.{_≡_}
+use mathlib.Core.Logic.{_⊎_}
+use lib.ListN.{getD}
+use Rattle.machine.specs.After.{After, plain}
+use Rattle.machine.specs.Interrupt.{enteredOf}
+use Rattle.machine.specs.Timer.{tickedOf, actedOf}
+use Rattle.machine.specs.Step.{runningOf}
+use Rattle.machine.specs.declared.state.State.{State}
+use Rattle.tell.specs.Fault.{raisedOf}
+use Rattle.tell.specs.declared.fault.Raised.{Raised}
+use Rattle.tell.specs.declared.told.Told.{Told}
+use Rattle.tell.specs.declared.uses.Use.{Use}
+use Rattle.promises.specs.Fault.{faulted}
+
+-- what a step leaves of which this was told
+abbrev pub Does : State → List ℕ → ℕ → Told → After → Type 0
+Does s m e Told.Halted a = a ≡ plain s m
+Does s m e Told.Acts a = a ≡ plain (actedOf (tickedOf s e)) m
+Does s m e (Told.Takes v) a = a ≡ plain (enteredOf (tickedOf s e) v) m
+Does s m e Told.Waits a = a ≡ plain (tickedOf s e) m
+Does s m e Told.Executes a = (a ≡ runningOf (tickedOf s e) m) × (raisedOf (tickedOf s e) m ≡ Raised.Nothing)
+Does s m e (Told.Faults c) a = faulted (tickedOf s e) m c a
+
+-- what a step may do to the memory m of which this access was told: only one that writes changes it, and no byte outside of what is told
+abbrev pub Spares : List ℕ → Use → List ℕ → Type 0
+Spares m Use.Idle n = n ≡ m
+Spares m (Use.Reads a k) n = n ≡ m
+Spares m (Use.Writes a k) n = (i : ℕ) → (i < a) ⊎ (a + k ≤ i) → getD n i 0 ≡ getD m i 0

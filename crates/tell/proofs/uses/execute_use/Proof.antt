@@ -1,0 +1,29 @@
+-- `tell::uses::execute_use` meets its contract, family by family. Assumes nothing.
+use borrow.Author.Needs.{needs}
+use Rattle.tell.proofs.uses.execute_use.Statement.{statement}
+use Rattle.tell.proofs.uses.execute_use.Tie as tie
+
+pub execute-use-spec : {M : Type 1} → statement M
+execute-use-spec =
+    tie.close
+    (tie.spec
+    (λ c. search needs)
+    (λ c. search needs)
+    (λ c. search needs)
+    (λ c. search needs)
+    (λ c. search needs)
+    (λ c κs. search needs)
+    (λ c. search needs)
+    (λ c. search needs)
+    (λ c. search needs)
+    (λ c. search needs)
+    (λ c κs. search needs)
+    (λ c. rw (c .enum-told .given .1))
+    (λ c. rw (c .enum-told2 .given .1))
+    (λ c. rw (c .enum-told3 .given .1))
+    (λ c. rw (c .enum-told4 .given .1))
+    (λ c. rw (c .before .before .i .given .1, c .load-store-use .ensures))
+    (λ c. rw (c .enum-told5 .given .1))
+    (λ c. rw (c .enum-told6 .given .1))
+    (λ c. rw (c .enum-told7 .given .1))
+    (λ c. rw (c .before .before .i2 .given .1, c .cache-use .ensures)))

@@ -1,0 +1,71 @@
+-- The synchronous interrupt that an instruction raises, if it raises one (4.5.3, 4.5.4, 4.5.6, 4.5.7, 7.5.1).
+use Prim.Native.Nat.{ℕ}
+use mathlib.Core.Bool.{true, false}
+use mathlib.Core.List.{List}
+use lib.Dec.{eqb}
+use lib.ListN.{length}
+use Rattle.word.specs.Bits.{bitAt}
+use Rattle.word.specs.Width.{bytes}
+use Rattle.memory.specs.Access.{pick, accessOf}
+use Rattle.memory.specs.Load.{loadOf, fetchOf}
+use Rattle.memory.specs.Store.{blockAt}
+use Rattle.memory.specs.declared.access.Access.{Access}
+use Rattle.memory.specs.declared.load.Loaded.{Loaded}
+use Rattle.insn.specs.Read.{decodeOf}
+use Rattle.insn.specs.declared.instr.Instr.{Instr}
+use Rattle.insn.specs.declared.instr.Decoded.{Decoded}
+use Rattle.insn.specs.declared.instr.LoadStore.{LoadStore}
+use Rattle.insn.specs.declared.instr.CacheOp.{CacheOp}
+use Rattle.machine.specs.LoadStore.{offsetEa, indexedEa}
+use Rattle.machine.specs.declared.state.State.{State}
+use Rattle.machine.specs.declared.interrupt.Cause.{Cause}
+use Rattle.tell.specs.declared.fault.Raised.{Raised}
+
+abbrev pub loadRaises : Loaded → ℕ → Raised
+loadRaises (Loaded.Value v) ea = Raised.Nothing
+loadRaises Loaded.Unaligned ea = Raised.Raises (Cause.Alignment ea false)
+loadRaises Loaded.Outside ea = Raised.Raises (Cause.DataStorage ea false)
+
+abbrev pub storeRaises : Access → ℕ → Raised
+storeRaises Access.Served ea = Raised.Nothing
+storeRaises Access.Unaligned ea = Raised.Raises (Cause.Alignment ea true)
+storeRaises Access.Outside ea = Raised.Raises (Cause.DataStorage ea true)
+
+abbrev pub loadStoreRaises : State → List ℕ → LoadStore → Raised
+loadStoreRaises s m (LoadStore.Load w u rt ra d) = loadRaises (loadOf m (offsetEa s ra d) w) (offsetEa s ra d)
+loadStoreRaises s m (LoadStore.LoadIndexed w rt ra rb) = loadRaises (loadOf m (indexedEa s ra rb) w) (indexedEa s ra rb)
+loadStoreRaises s m (LoadStore.Store w u rs ra d) = storeRaises (accessOf (length m) (offsetEa s ra d) (bytes w)) (offsetEa s ra d)
+loadStoreRaises s m (LoadStore.StoreIndexed w rs ra rb) = storeRaises (accessOf (length m) (indexedEa s ra rb) (bytes w)) (indexedEa s ra rb)
+
+abbrev pub cacheRaises : State → List ℕ → CacheOp → ℕ → ℕ → Raised
+cacheRaises s m CacheOp.Dcbf ra rb = Raised.Nothing
+cacheRaises s m CacheOp.Dcbi ra rb = Raised.Nothing
+cacheRaises s m CacheOp.Dcbt ra rb = Raised.Nothing
+cacheRaises s m CacheOp.Dcbz ra rb = storeRaises (accessOf (length m) (blockAt (indexedEa s ra rb)) 32) (indexedEa s ra rb)
+
+abbrev pub trapRaises : State → ℕ → ℕ → Raised
+trapRaises s word to = pick (eqb to 0) Raised.Nothing (pick (bitAt (s .dbcr) 7) Raised.Nothing (Raised.Raises (Cause.Program word true)))
+
+abbrev pub executeRaises : State → List ℕ → ℕ → Instr → Raised
+executeRaises s m w (Instr.Arithmetic i) = Raised.Nothing
+executeRaises s m w (Instr.Logical i) = Raised.Nothing
+executeRaises s m w (Instr.Compare i) = Raised.Nothing
+executeRaises s m w (Instr.Rotate i) = Raised.Nothing
+executeRaises s m w (Instr.LoadStore i) = loadStoreRaises s m i
+executeRaises s m w (Instr.Branch i) = Raised.Nothing
+executeRaises s m w (Instr.Trap to ra rb tg) = trapRaises s w to
+executeRaises s m w (Instr.System i) = Raised.Nothing
+executeRaises s m w (Instr.Cache op hint ra rb) = cacheRaises s m op ra rb
+
+abbrev pub decodedRaises : State → List ℕ → ℕ → Decoded → Raised
+decodedRaises s m w (Decoded.Insn i) = executeRaises s m w i
+decodedRaises s m w Decoded.Illegal = Raised.Raises (Cause.Program w false)
+
+abbrev pub fetchedRaises : State → List ℕ → Loaded → Raised
+fetchedRaises s m (Loaded.Value w) = decodedRaises s m w (decodeOf w)
+fetchedRaises s m Loaded.Unaligned = Raised.Raises Cause.InstructionStorage
+fetchedRaises s m Loaded.Outside = Raised.Raises Cause.InstructionStorage
+
+-- of the instruction at IAR
+unfoldable pub raisedOf : State → List ℕ → Raised
+raisedOf s m = fetchedRaises s m (fetchOf m (s .iar))

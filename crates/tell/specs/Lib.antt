@@ -1,0 +1,3 @@
+pub mod Fault
+pub mod Uses
+pub mod Told

@@ -1,0 +1,66 @@
+-- What a step asks of the memory beside its fetch: nothing, or to read or write some bytes from an address on.
+use Prim.Native.Nat.{ℕ}
+use mathlib.Core.Bool.{Bool, true, false, not, _&&_}
+use mathlib.Core.List.{List}
+use lib.Dec.{eqb}
+use Rattle.word.specs.Bits.{bitAt}
+use Rattle.word.specs.Width.{bytes}
+use Rattle.memory.specs.Access.{pick}
+use Rattle.memory.specs.Load.{fetchOf}
+use Rattle.memory.specs.Store.{blockAt}
+use Rattle.memory.specs.declared.load.Loaded.{Loaded}
+use Rattle.insn.specs.Read.{decodeOf}
+use Rattle.insn.specs.declared.instr.Instr.{Instr}
+use Rattle.insn.specs.declared.instr.Decoded.{Decoded}
+use Rattle.insn.specs.declared.instr.LoadStore.{LoadStore}
+use Rattle.insn.specs.declared.instr.CacheOp.{CacheOp}
+use Rattle.machine.specs.LoadStore.{offsetEa, indexedEa}
+use Rattle.machine.specs.Timer.{tickedOf, actsOf}
+use Rattle.machine.specs.Step.{highestOf}
+use Rattle.machine.specs.declared.state.State.{State}
+use Rattle.machine.specs.declared.step.Pending.{Pending}
+use Rattle.tell.specs.declared.uses.Use.{Use}
+
+abbrev pub loadStoreUse : State → LoadStore → Use
+loadStoreUse s (LoadStore.Load w u rt ra d) = Use.Reads (offsetEa s ra d) (bytes w)
+loadStoreUse s (LoadStore.LoadIndexed w rt ra rb) = Use.Reads (indexedEa s ra rb) (bytes w)
+loadStoreUse s (LoadStore.Store w u rs ra d) = Use.Writes (offsetEa s ra d) (bytes w)
+loadStoreUse s (LoadStore.StoreIndexed w rs ra rb) = Use.Writes (indexedEa s ra rb) (bytes w)
+
+abbrev pub cacheUse : State → CacheOp → ℕ → ℕ → Use
+cacheUse s CacheOp.Dcbf ra rb = Use.Idle
+cacheUse s CacheOp.Dcbi ra rb = Use.Idle
+cacheUse s CacheOp.Dcbt ra rb = Use.Idle
+cacheUse s CacheOp.Dcbz ra rb = Use.Writes (blockAt (indexedEa s ra rb)) 32
+
+abbrev pub executeUse : State → Instr → Use
+executeUse s (Instr.Arithmetic i) = Use.Idle
+executeUse s (Instr.Logical i) = Use.Idle
+executeUse s (Instr.Compare i) = Use.Idle
+executeUse s (Instr.Rotate i) = Use.Idle
+executeUse s (Instr.LoadStore i) = loadStoreUse s i
+executeUse s (Instr.Branch i) = Use.Idle
+executeUse s (Instr.Trap to ra rb tg) = Use.Idle
+executeUse s (Instr.System i) = Use.Idle
+executeUse s (Instr.Cache op hint ra rb) = cacheUse s op ra rb
+
+abbrev pub decodedUse : State → Decoded → Use
+decodedUse s (Decoded.Insn i) = executeUse s i
+decodedUse s Decoded.Illegal = Use.Idle
+
+abbrev pub fetchedUse : State → Loaded → Use
+fetchedUse s (Loaded.Value w) = decodedUse s (decodeOf w)
+fetchedUse s Loaded.Unaligned = Use.Idle
+fetchedUse s Loaded.Outside = Use.Idle
+
+abbrev pub free : Pending → Bool
+free (Pending.Take v) = false
+free Pending.Nothing = true
+
+-- whether a step gets to line 6
+unfoldable pub executes : State → ℕ → Bool
+executes s e = eqb (s .halt) 0 && not (actsOf s e) && free (highestOf (tickedOf s e) e) && not (bitAt (tickedOf s e .msr) 13)
+
+-- of a whole step; an access that is not served is asked for too
+unfoldable pub useOf : State → List ℕ → ℕ → Use
+useOf s m e = let t = tickedOf s e in pick (executes s e) (fetchedUse t (fetchOf m (t .iar))) Use.Idle

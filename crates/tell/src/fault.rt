@@ -1,0 +1,175 @@
+// The synchronous interrupt that an instruction raises, if it raises one.
+ghost use mathlib.Core.Path.{_≡_};
+ghost use Rattle.insn.specs.Read.{decodeOf};
+ghost use Rattle.tell.specs.Fault.{loadRaises, storeRaises, loadStoreRaises, cacheRaises, trapRaises, executeRaises, decodedRaises, raisedOf};
+use insn::instr::CacheOp;
+use insn::instr::Decoded;
+use insn::instr::Instr;
+use insn::instr::LoadStore;
+use insn::read::read;
+use machine::interrupt::Cause;
+use machine::state::State;
+use memory::access::Access;
+use memory::access::access_at;
+use memory::access::block_access;
+use memory::load::Loaded;
+use memory::load::fetch;
+use memory::load::load;
+use word::bits::Bit;
+use word::bits::bit_at;
+
+pub enum Raised {
+    Nothing,
+    Raises(Cause),
+}
+
+fn load_raises(got: Loaded, ea: u32) -> Raised
+    ensures { λ r. ⌜ r ≡ loadRaises got ea ⌝ }
+{
+    match got {
+        Loaded::Value(_) => Raised::Nothing,
+        Loaded::Unaligned => Raised::Raises(Cause::Alignment {
+            address: ea,
+            store: false,
+        }),
+        Loaded::Outside => Raised::Raises(Cause::DataStorage {
+            address: ea,
+            store: false,
+        }),
+    }
+}
+
+fn store_raises(access: Access, ea: u32) -> Raised
+    ensures { λ r. ⌜ r ≡ storeRaises access ea ⌝ }
+{
+    match access {
+        Access::Served => Raised::Nothing,
+        Access::Unaligned => Raised::Raises(Cause::Alignment {
+            address: ea,
+            store: true,
+        }),
+        Access::Outside => Raised::Raises(Cause::DataStorage {
+            address: ea,
+            store: true,
+        }),
+    }
+}
+
+fn load_store_raises(state: State, mem: &[u8], i: LoadStore) -> Raised
+    ensures { λ r. ⌜ r ≡ loadStoreRaises state (now (mem .entry)) i ⌝ }
+{
+    match i {
+        LoadStore::Load {
+            width,
+            update: _,
+            rt: _,
+            ra,
+            d,
+        } => {
+            let ea = state.offset_ea(ra, d);
+            load_raises(load(mem, ea, width), ea)
+        }
+        LoadStore::LoadIndexed {
+            width,
+            rt: _,
+            ra,
+            rb,
+        } => {
+            let ea = state.indexed_ea(ra, rb);
+            load_raises(load(mem, ea, width), ea)
+        }
+        LoadStore::Store {
+            width,
+            update: _,
+            rs: _,
+            ra,
+            d,
+        } => {
+            let ea = state.offset_ea(ra, d);
+            store_raises(access_at(mem.len(), ea, width), ea)
+        }
+        LoadStore::StoreIndexed {
+            width,
+            rs: _,
+            ra,
+            rb,
+        } => {
+            let ea = state.indexed_ea(ra, rb);
+            store_raises(access_at(mem.len(), ea, width), ea)
+        }
+    }
+}
+
+fn cache_raises(state: State, mem: &[u8], op: CacheOp, ra: u8, rb: u8) -> Raised
+    ensures { λ r. ⌜ r ≡ cacheRaises state (now (mem .entry)) op ra rb ⌝ }
+{
+    match op {
+        CacheOp::Dcbf => Raised::Nothing,
+        CacheOp::Dcbi => Raised::Nothing,
+        CacheOp::Dcbt => Raised::Nothing,
+        CacheOp::Dcbz => {
+            let ea = state.indexed_ea(ra, rb);
+            store_raises(block_access(mem.len(), ea), ea)
+        }
+    }
+}
+
+fn trap_raises(state: State, word: u32, to: u8) -> Raised
+    ensures { λ r. ⌜ r ≡ trapRaises state word to ⌝ }
+{
+    if to == 0 {
+        return Raised::Nothing;
+    }
+    if bit_at(state.dbcr, Bit(7)) {
+        return Raised::Nothing;
+    }
+    Raised::Raises(Cause::Program { word, trap: true })
+}
+
+fn execute_raises(state: State, mem: &[u8], word: u32, i: Instr) -> Raised
+    ensures { λ r. ⌜ r ≡ executeRaises state (now (mem .entry)) word i ⌝ }
+{
+    match i {
+        Instr::Arithmetic(_) => Raised::Nothing,
+        Instr::Logical(_) => Raised::Nothing,
+        Instr::Compare(_) => Raised::Nothing,
+        Instr::Rotate(_) => Raised::Nothing,
+        Instr::LoadStore(i) => load_store_raises(state, mem, i),
+        Instr::Branch(_) => Raised::Nothing,
+        Instr::Trap {
+            to,
+            ra: _,
+            rb: _,
+            tg: _,
+        } => trap_raises(state, word, to),
+        Instr::System(_) => Raised::Nothing,
+        Instr::Cache {
+            op,
+            hint: _,
+            ra,
+            rb,
+        } => cache_raises(state, mem, op, ra, rb),
+    }
+}
+
+fn decoded_raises(state: State, mem: &[u8], word: u32) -> Raised
+    ensures { λ r. ⌜ r ≡ decodedRaises state (now (mem .entry)) word (decodeOf word) ⌝ }
+{
+    let what = read(word);
+    match what {
+        Decoded::Insn(i) => execute_raises(state, mem, word, i),
+        Decoded::Illegal => Raised::Raises(Cause::Program { word, trap: false }),
+    }
+}
+
+// Of the instruction at IAR.
+pub fn running_raises(state: State, mem: &[u8]) -> Raised
+    ensures { λ r. ⌜ r ≡ raisedOf state (now (mem .entry)) ⌝ }
+{
+    let got = fetch(mem, state.iar);
+    match got {
+        Loaded::Value(word) => decoded_raises(state, mem, word),
+        Loaded::Unaligned => Raised::Raises(Cause::InstructionStorage),
+        Loaded::Outside => Raised::Raises(Cause::InstructionStorage),
+    }
+}
