@@ -14,7 +14,7 @@ use Rattle.machine.specs.declared.refusal.Refusal.{Refusal}
 use Rattle.tell.specs.Told.{toldOf, codeOf}
 use Rattle.tell.specs.Uses.{useOf}
 use Rattle.tell.specs.declared.uses.Use.{Use}
-use Rattle.run.specs.Outcome.{runOutcome, runMemory, runPast, stepRefusal, stepOutcome, stepMemory}
+use Rattle.run.specs.Outcome.{runOutcome, runMemory, runPast, insideOutcome, insideMemory, stepRefusal, stepOutcome, stepMemory}
 use Rattle.run.specs.declared.outcome.Outcome.{Outcome}
 use Rattle.capture.specs.Words.{wordsAt, wordBytes, stateOf, wordsOf}
 use Rattle.capture.specs.Read.{readOf, partOf}
@@ -57,6 +57,18 @@ runLent s m ev budget = pick (isState s) (runMemory (lentState s) m ev budget) m
 -- the same answer, and 2^63 if the run reached past its memory
 unfoldable pub reachAnswer : List ℕ → List ℕ → List ℕ → ℕ → ℕ
 reachAnswer s m ev budget = runAnswer s m ev budget + pick (isState s && runPast (lentState s) m ev budget) (2 ^ 63) 0
+
+-- of the run that ends with the first step that reaches
+unfoldable pub insideAnswer : List ℕ → List ℕ → List ℕ → ℕ → ℕ
+insideAnswer s m ev budget =
+    let o = insideOutcome (lentState s) m ev budget in
+    pick (isState s) (answerOf (o .refusal) (o .steps)) (answerOf Refusal.Capture 0) + pick (isState s && runPast (lentState s) m ev budget) (2 ^ 63) 0
+
+unfoldable pub insideState : List ℕ → List ℕ → List ℕ → ℕ → List ℕ
+insideState s m ev budget = pick (isState s) (stored s (insideOutcome (lentState s) m ev budget)) s
+
+unfoldable pub insideLent : List ℕ → List ℕ → List ℕ → ℕ → List ℕ
+insideLent s m ev budget = pick (isState s) (insideMemory (lentState s) m ev budget) m
 
 unfoldable pub stepAnswer : List ℕ → List ℕ → ℕ → ℕ
 stepAnswer s m e =

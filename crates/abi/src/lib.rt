@@ -4,7 +4,7 @@ ghost use mathlib.Core.Path.{_≡_};
 ghost use Prim.Native.Nat.{_<_, _^_};
 ghost use lib.ListN.{length};
 ghost use Rattle.insn.specs.Read.{decodeOf};
-ghost use Rattle.abi.specs.Boundary.{legalOf, rewriteOf, answerOf, stored, runAnswer, runState, runLent, reachAnswer, stepAnswer, stepState, stepLent, tellAnswer, packedOf, accessAnswer, checkAnswer, writeAnswer, writeOut};
+ghost use Rattle.abi.specs.Boundary.{legalOf, rewriteOf, answerOf, stored, runAnswer, runState, runLent, reachAnswer, insideAnswer, insideState, insideLent, stepAnswer, stepState, stepLent, tellAnswer, packedOf, accessAnswer, checkAnswer, writeAnswer, writeOut};
 use insn::instr::Decoded;
 use machine::refusal::Refusal;
 use machine::refusal::accepts;
@@ -100,6 +100,29 @@ pub extern "C" fn ppe42_run_reach(
     }
     let start = capture::words::state_at(&state[..], 0);
     let reached = run::reach::run_reach(start, memory, events, budget);
+    let outcome = reached.outcome;
+    let given = settle(state, outcome);
+    if reached.past {
+        return given + 0x8000_0000_0000_0000;
+    }
+    given
+}
+
+// The run that ends with the first step that reaches past its memory, and then 2^63.
+#[no_mangle]
+pub extern "C" fn ppe42_run_inside(
+    state: &mut [u8],
+    memory: &mut [u8],
+    events: &[u8],
+    budget: u32,
+) -> u64
+    ensures { λ r. ⌜ (r ≡ insideAnswer (now (state .entry)) (now (memory .entry)) (now (events .entry)) budget) × ((now (state .exit) ≡ insideState (now (state .entry)) (now (memory .entry)) (now (events .entry)) budget) × (now (memory .exit) ≡ insideLent (now (state .entry)) (now (memory .entry)) (now (events .entry)) budget)) ⌝ }
+{
+    if state.len() != 144 {
+        return answer(Refusal::Capture, 0);
+    }
+    let start = capture::words::state_at(&state[..], 0);
+    let reached = run::inside::run_inside(start, memory, events, budget);
     let outcome = reached.outcome;
     let given = settle(state, outcome);
     if reached.past {

@@ -2,3 +2,5 @@
 pub mod Refusals
 pub mod Registers
 pub mod Quiet
+pub mod Halts
+pub mod Marks

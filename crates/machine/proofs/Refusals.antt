@@ -1,11 +1,13 @@
 -- What checks in a row show where they refuse nothing. Assumes nothing.
-use Prim.Native.Nat.{ℕ}
+use Prim.Native.Nat.{ℕ, _%_, _≤_}
 use mathlib.Core.Bool.{Bool, true, false}
-use mathlib.Core.Path.{_≡_, refl, sym, _∙_}
+use mathlib.Core.Path.{_≡_, refl, ap, sym, _∙_}
+use lib.Dec.{eqb}
+use borrow.Author.Tests.{leb-true}
 use Rattle.memory.specs.Access.{pick, sizedOf}
-use Rattle.word.proofs.Truth.{never}
+use Rattle.word.proofs.Truth.{never, and-right}
 use Rattle.machine.specs.Refusal.{acceptsOf, unless, orElse}
-use Rattle.machine.specs.Register.{refusalOf, startRefusal}
+use Rattle.machine.specs.Register.{soundOf, refusalOf, startRefusal}
 use Rattle.machine.specs.declared.state.State.{State}
 use Rattle.machine.specs.declared.refusal.Refusal.{Refusal}
 
@@ -37,3 +39,15 @@ unfolding startRefusal
 start-accepts s m h =
     let a = or-accepts (unless (sizedOf m) Refusal.Memory) (refusalOf s) h in
     (unless-accepts (sizedOf m) Refusal.Memory refl (a .0), accepts-none (refusalOf s) (a .1))
+
+halt-cases : (p q : Bool) → acceptsOf (pick p (pick q Refusal.None Refusal.Reserved) Refusal.Iar) ≡ true → q ≡ true
+halt-cases true true h = refl
+halt-cases true false h = never (sym h)
+halt-cases false q h = never (sym h)
+
+-- and its halt code
+pub accepted-halt : (s : State) → refusalOf s ≡ Refusal.None → s .halt ≤ 5
+unfolding refusalOf soundOf
+accepted-halt s h =
+    let c : soundOf s ≡ true = halt-cases (eqb (s .iar % 4) 0) (soundOf s) (ap acceptsOf h) in
+    search (and-right, leb-true)

@@ -37,6 +37,12 @@ loadedState s (Loaded.Value v) rt update ra ea = nextOf (withGpr (updatedOf s up
 loadedState s Loaded.Unaligned rt update ra ea = interruptedOf s (Cause.Alignment ea false)
 loadedState s Loaded.Outside rt update ra ea = interruptedOf s (Cause.DataStorage ea false)
 
+-- what was loaded fell outside
+abbrev pub loadReaches : Loaded → Bool
+loadReaches (Loaded.Value v) = false
+loadReaches Loaded.Unaligned = false
+loadReaches Loaded.Outside = true
+
 unfoldable pub loadAt : State → List ℕ → Width → ℕ → ℕ → Bool → ℕ → After
 loadAt s m w rt ea update ra =
     record {

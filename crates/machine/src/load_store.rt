@@ -31,7 +31,7 @@ impl State {
     }
 
     // The value in RT, or the interrupt.
-    fn loaded(self, got: Loaded, rt: u8, update: bool, ra: u8, ea: u32) -> State
+    pub fn loaded(self, got: Loaded, rt: u8, update: bool, ra: u8, ea: u32) -> State
         ensures { λ r. ⌜ r ≡ loadedState self got rt update ra ea ⌝ }
     {
         match got {
@@ -41,7 +41,7 @@ impl State {
         }
     }
 
-    fn stored(self, done: Access, update: bool, ra: u8, ea: u32) -> State
+    pub fn stored(self, done: Access, update: bool, ra: u8, ea: u32) -> State
         ensures { λ r. ⌜ r ≡ storedState self done update ra ea ⌝ }
     {
         match done {

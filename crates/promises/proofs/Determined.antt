@@ -12,7 +12,7 @@ use Rattle.tell.specs.Told.{toldOf}
 use Rattle.tell.specs.Uses.{useOf}
 use Rattle.tell.specs.declared.told.Told.{Told}
 use Rattle.tell.specs.declared.uses.Use.{Use}
-use Rattle.run.specs.Outcome.{runOutcome, runMemory, runPast, stepOutcome, stepMemory}
+use Rattle.run.specs.Outcome.{runOutcome, runMemory, runPast, insideOutcome, insideMemory, stepOutcome, stepMemory}
 use Rattle.run.specs.Lent.{answerOf}
 use Rattle.run.specs.declared.outcome.Outcome.{Outcome}
 use Rattle.run.specs.declared.lent.Answer.{Answer}
@@ -21,7 +21,7 @@ use Rattle.capture.specs.Read.{readOf, partOf}
 use Rattle.capture.specs.Write.{writtenOf as captureWritten, outOf}
 use Rattle.capture.specs.declared.read.Read.{Read}
 use Rattle.capture.specs.declared.write.Written.{Written as CaptureWritten}
-use Rattle.abi.specs.Boundary.{legalOf, rewriteOf, runAnswer, runState, runLent, reachAnswer, stepAnswer, stepState, stepLent, tellAnswer, accessAnswer, checkAnswer, writeAnswer, writeOut}
+use Rattle.abi.specs.Boundary.{legalOf, rewriteOf, runAnswer, runState, runLent, reachAnswer, insideAnswer, insideState, insideLent, stepAnswer, stepState, stepLent, tellAnswer, accessAnswer, checkAnswer, writeAnswer, writeOut}
 
 -- a contract that is an equation has one answer
 one : {A : Type 0} {x y z : A} → x ≡ z → y ≡ z → x ≡ y
@@ -49,6 +49,11 @@ module _ (s : State) (m : List ℕ) where
       → (r ≡ record { outcome = runOutcome s m ev budget; past = runPast s m ev budget }) × (m′ ≡ runMemory s m ev budget)
       → (q ≡ record { outcome = runOutcome s m ev budget; past = runPast s m ev budget }) × (n′ ≡ runMemory s m ev budget) → (r ≡ q) × (m′ ≡ n′)
   reach-determined ev budget r q m′ n′ = two
+
+  pub inside-determined : (ev : List ℕ) (budget : ℕ) (r q : Reached) (m′ n′ : List ℕ)
+      → (r ≡ record { outcome = insideOutcome s m ev budget; past = runPast s m ev budget }) × (m′ ≡ insideMemory s m ev budget)
+      → (q ≡ record { outcome = insideOutcome s m ev budget; past = runPast s m ev budget }) × (n′ ≡ insideMemory s m ev budget) → (r ≡ q) × (m′ ≡ n′)
+  inside-determined ev budget r q m′ n′ = two
 
   pub step-determined : (e : ℕ) (r q : Outcome) (m′ n′ : List ℕ)
       → (r ≡ stepOutcome s m e) × (m′ ≡ stepMemory s m e) → (q ≡ stepOutcome s m e) × (n′ ≡ stepMemory s m e) → (r ≡ q) × (m′ ≡ n′)
@@ -95,6 +100,11 @@ module _ (s m : List ℕ) where
       → (r ≡ reachAnswer s m ev budget) × ((s′ ≡ runState s m ev budget) × (m′ ≡ runLent s m ev budget)) → (q ≡ reachAnswer s m ev budget) × ((t′ ≡ runState s m ev budget) × (n′ ≡ runLent s m ev budget))
       → (r ≡ q) × ((s′ ≡ t′) × (m′ ≡ n′))
   c-reach-determined ev budget r q s′ t′ m′ n′ = three
+
+  pub c-inside-determined : (ev : List ℕ) (budget r q : ℕ) (s′ t′ m′ n′ : List ℕ)
+      → (r ≡ insideAnswer s m ev budget) × ((s′ ≡ insideState s m ev budget) × (m′ ≡ insideLent s m ev budget)) → (q ≡ insideAnswer s m ev budget) × ((t′ ≡ insideState s m ev budget) × (n′ ≡ insideLent s m ev budget))
+      → (r ≡ q) × ((s′ ≡ t′) × (m′ ≡ n′))
+  c-inside-determined ev budget r q s′ t′ m′ n′ = three
 
   pub c-step-determined : (e r q : ℕ) (s′ t′ m′ n′ : List ℕ)
       → (r ≡ stepAnswer s m e) × ((s′ ≡ stepState s m e) × (m′ ≡ stepLent s m e)) → (q ≡ stepAnswer s m e) × ((t′ ≡ stepState s m e) × (n′ ≡ stepLent s m e))

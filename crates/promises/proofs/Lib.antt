@@ -10,3 +10,4 @@ pub mod Told
 pub mod Determined
 pub mod Lent
 pub mod Worked
+pub mod Inside

@@ -1,4 +1,4 @@
--- Laws of the run and of its reach, one step on and at the ends, of the event list, one byte on, and of a step that is refused. Assumes nothing.
+-- Laws of the run and of its reach, one step on and at the ends, of the event list, one byte on, of a step that is refused and of a run that is not. Assumes nothing.
 use Prim.Native.Nat.{ℕ, zero, suc, _+_, _-_, _≤_, _<_}
 use native.Mathlib.Omega.{arith}
 use native.Mathlib.Numerals.{add-one}
@@ -13,9 +13,11 @@ use Rattle.memory.specs.Access.{pick}
 use Rattle.machine.specs.declared.state.State.{State}
 use Rattle.machine.specs.declared.refusal.Refusal.{Refusal}
 use Rattle.machine.specs.Refusal.{acceptsOf}
+use Rattle.machine.specs.Register.{startRefusal}
 use Rattle.machine.specs.Step.{stepOf}
+use Rattle.machine.proofs.Refusals.{or-accepts, start-accepts, accepted-halt}
 use Rattle.run.specs.Run.{Ran, runOf, pastOf}
-use Rattle.run.specs.Outcome.{eventsGood, accepted, refusedWith, answered, stepRefusal, stepOutcome}
+use Rattle.run.specs.Outcome.{eventsGood, accepted, refusedWith, answered, runRefusal, stepRefusal, stepOutcome}
 
 module _ (ev : List ℕ) (s : State) (m : List ℕ) where
   pub run-more : (b i : ℕ) → i < b → s .halt ≡ 0
@@ -65,6 +67,10 @@ pub or-nothing : (p : Bool) → (p || false) ≡ p
 or-nothing true = refl
 or-nothing false = refl
 
+pub or-told : (p : Bool) → (p || true) ≡ true
+or-told true = refl
+or-told false = refl
+
 -- a run of one step
 pub run-one : (e : ℕ) (s : State) (m : List ℕ) → s .halt ≡ 0
     → runOf 1 0 (e ∷ []) s m ≡ record { st = stepOf s m e .st; mem = stepOf s m e .mem; steps = 1 }
@@ -91,3 +97,8 @@ refused-kept s r ran false e h = rw e
 pub refused-state : (s : State) (m : List ℕ) (e : ℕ) → Holds (not (acceptsOf (stepOutcome s m e .refusal))) → s ≡ stepOutcome s m e .state
 unfolding stepOutcome
 refused-state s m e h = refused-kept s (stepRefusal s m e) (runOf 1 0 (e ∷ []) s m) (acceptsOf (stepRefusal s m e)) refl h
+
+-- an accepted run starts with one of the halt codes
+pub run-halt : (s : State) (m ev : List ℕ) (budget : ℕ) → acceptsOf (runRefusal s m ev budget) ≡ true → s .halt ≤ 5
+unfolding runRefusal
+run-halt s m ev budget h = accepted-halt s (start-accepts s (length m) (or-accepts (startRefusal s (length m)) _ h .0) .1)

@@ -9,7 +9,7 @@ use Rattle.machine.specs.Refusal.{acceptsOf, unless, orElse}
 use Rattle.machine.specs.Register.{startRefusal}
 use Rattle.machine.specs.declared.state.State.{State}
 use Rattle.machine.specs.declared.refusal.Refusal.{Refusal}
-use Rattle.run.specs.Run.{Ran, runOf, pastOf}
+use Rattle.run.specs.Run.{Ran, runOf, pastOf, insideOf}
 use Rattle.run.specs.declared.outcome.Outcome.{Outcome}
 
 -- every event byte is below 64
@@ -53,6 +53,13 @@ runMemory s m ev budget = remembered (runRefusal s m ev budget) m (runOf budget 
 -- whether it reached past its memory; refused, it took no step
 unfoldable pub runPast : State → List ℕ → List ℕ → ℕ → Bool
 runPast s m ev budget = pick (acceptsOf (runRefusal s m ev budget)) (pastOf budget 0 ev s m) false
+
+-- the run that ends with the first step that reaches: the refusals for its budget, and the steps of the cut one
+unfoldable pub insideOutcome : State → List ℕ → List ℕ → ℕ → Outcome
+insideOutcome s m ev budget = answered (runRefusal s m ev budget) s (runOf (insideOf budget 0 ev s m) 0 ev s m)
+
+unfoldable pub insideMemory : State → List ℕ → List ℕ → ℕ → List ℕ
+insideMemory s m ev budget = remembered (runRefusal s m ev budget) m (runOf (insideOf budget 0 ev s m) 0 ev s m)
 
 -- a single step is a run of one
 unfoldable pub stepOutcome : State → List ℕ → ℕ → Outcome

@@ -27,3 +27,10 @@ pastOf zero i ev s m = false
 pastOf (suc n) i ev s m =
     let r = pastOf n (suc i) ev (stepOf s m (getD ev i 0) .st) (stepOf s m (getD ev i 0) .mem) in
     pick (eqb (s .halt) 0) (pick (stepOf s m (getD ev i 0) .past) true r) false
+
+-- a budget of n, cut at the first step that reaches past the memory
+unfoldable pub insideOf : ℕ → ℕ → List ℕ → State → List ℕ → ℕ
+insideOf zero i ev s m = 0
+insideOf (suc n) i ev s m =
+    let r = insideOf n (suc i) ev (stepOf s m (getD ev i 0) .st) (stepOf s m (getD ev i 0) .mem) in
+    suc (pick (stepOf s m (getD ev i 0) .past) 0 r)

@@ -17,7 +17,7 @@ pub struct Reached {
     pub past: bool,
 }
 
-// The run's loop, each step asked before it is taken.
+// The run's loop: the mark of a reach is told and taken off after its step.
 fn accepted_reach(start: State, mem: &mut [u8], events: &[u8], budget: u32) -> Reached
     ensures { λ r. ⌜ (r ≡ record { outcome = accepted (runOf budget 0 (now (events .entry)) start (now (mem .entry))); past = pastOf budget 0 (now (events .entry)) start (now (mem .entry)) }) × (now (mem .exit) ≡ runOf budget 0 (now (events .entry)) start (now (mem .entry)) .mem) ⌝ }
 {
@@ -37,10 +37,12 @@ fn accepted_reach(start: State, mem: &mut [u8], events: &[u8], budget: u32) -> R
                 steps: i,
             };
         }
-        let event = event_at(events, i);
-        past = past | s.reaches(&mem[..], event);
-        s = s.step(mem, event);
+        s = s.step_marked(mem, event_at(events, i));
         i += 1;
+        if s.halt >= 8 {
+            past = true;
+            s = s.unmark();
+        }
     };
     Reached {
         outcome: Outcome {

@@ -3,10 +3,11 @@ use Prim.Native.Nat.{_≤_, _-_}
 use native.Mathlib.Nat.{sub-zero}
 use mathlib.Core.Bool.{_||_}
 use mathlib.Core.Path.{_≡_, refl, _∙_}
-use lib.ListN.{length}
+use lib.ListN.{length, getD}
 use borrow.Author.Needs.{needs}
 use Rattle.run.specs.Run.{runOf, pastOf}
-use Rattle.run.proofs.Laws.{run-more, run-spent, run-halted, past-more, past-spent, past-halted, or-nothing}
+use Rattle.run.proofs.Laws.{run-more, run-spent, run-halted, past-more, past-spent, past-halted, or-nothing, or-told}
+use Rattle.run.proofs.Marked.{told, untold}
 use Rattle.run.proofs.reach.accepted_reach.Statement.{statement}
 use Rattle.run.proofs.reach.accepted_reach.Tie as tie
 
@@ -19,20 +20,47 @@ abbrev μ-loop : tie.MeasureT-loop
 
 loop-again : tie.Need-loop-again Inv-loop μ-loop
 loop-again c =
+    let at = c .before .before .before .before .before .before .before .before .before .before .before in
+    let ev = at .before .before .before .args .events .now in
+    let budget = at .before .before .before .args .budget in
+    let halt = c .before .before .before .before .before .before .before .before .if2 .left in
+    let less = c .before .before .before .before .before .before .before .before .before .before .if1 .left in
+    let event = c .before .before .before .before .before .before .event-at .ensures in
+    let step = c .before .before .before .before .before .step-marked .ensures in
+    let mark = told (at .loop .s) (at .loop .mem) (getD ev (at .loop .i) 0) halt (rw (← event, ← (step .0)) (c .before .if3 .taken)) in (
+      search (needs, less),
+      (
+        search needs,
+        (
+          at .loop .inv .1 .1 .0
+              ∙ (run-more ev (at .loop .s) (at .loop .mem) budget (at .loop .i) less halt
+              ∙ rw (c .unmark .ensures, step .0, step .1, event, mark .1)),
+          at .loop .inv .1 .1 .1
+              ∙ (past-more ev (at .loop .s) (at .loop .mem) budget (at .loop .i) (at .loop .past) less halt
+              ∙ rw (mark .0, or-told (at .loop .past))),
+        ),
+      ),
+    )
+
+loop-again-2 : tie.Need-loop-again-2 Inv-loop μ-loop
+loop-again-2 c =
     let at = c .before .before .before .before .before .before .before .before .before .before in
     let ev = at .before .before .before .args .events .now in
     let budget = at .before .before .before .args .budget in
-    let halt = c .before .before .before .before .before .before .before .if2 .left in (
+    let halt = c .before .before .before .before .before .before .before .if2 .left in
+    let event = c .before .before .before .before .before .event-at .ensures in
+    let step = c .before .before .before .before .step-marked .ensures in
+    let mark = untold (at .loop .s) (at .loop .mem) (getD ev (at .loop .i) 0) halt (rw (← event, ← (step .0)) (c .if3 .left)) in (
       search needs,
       (
         search needs,
         (
           at .loop .inv .1 .1 .0
               ∙ (run-more ev (at .loop .s) (at .loop .mem) budget (at .loop .i) (search needs) halt
-              ∙ rw (← (c .before .before .before .before .before .before .event-at .ensures), ← (c .before .before .step .ensures .0), ← (c .before .before .step .ensures .1))),
+              ∙ rw (step .0, step .1, event, mark .1)),
           at .loop .inv .1 .1 .1
               ∙ (past-more ev (at .loop .s) (at .loop .mem) budget (at .loop .i) (at .loop .past) (search needs) halt
-              ∙ rw (← (c .before .before .before .before .before .before .event-at .ensures), ← (c .before .before .before .before .reaches .ensures), ← (c .before .before .step .ensures .0), ← (c .before .before .step .ensures .1))),
+              ∙ rw (step .0, step .1, event, mark .1, mark .0, or-nothing (at .loop .past))),
         ),
       ),
     )
@@ -61,10 +89,12 @@ accepted-reach-spec =
     (λ c. (search needs, (refl, (rw sub-zero, rw sub-zero))))
     (λ c κs. search needs)
     (λ c κs. search needs)
+    (λ c. search needs)
     (λ c κs. search needs)
     (λ c. search needs)
-    (λ c. search needs)
     loop-again
+    (λ c. search needs)
+    loop-again-2
     (λ c. search needs)
     returns
     (λ c. search needs)
