@@ -2,7 +2,7 @@
  * caller lends and gets.
  *
  * Each function answers what the proved operations answer. All that is decided here is that a state of other than 144 bytes
- * gets refusal 7, before every other check.
+ * gets refusal 7, before every other check (from ppe42_access 0, as every refusal there).
  *
  * - Memory is lent: memory_len bytes at the core's addresses 0 to memory_len - 1, big-endian. Its length is a multiple of 32,
  *   from 32 to 1,048,576.
@@ -100,11 +100,17 @@ enum ppe42_refused {
     PPE42_REFUSED_OUTPUT = 8    /* an output shorter than memory_len + 156 */
 };
 
-/* The answer of a run, a step or a capture function is the refusal times 2^32 plus a count, which is 0 where there is a
- * refusal; ppe42_run_reach may add 2^63. ppe42_legal and ppe42_rewrite have answers of their own. */
+/* The answer of a run, a step, a capture function or ppe42_tell is the refusal times 2^32 plus a count, which is 0 where there
+ * is a refusal; ppe42_run_reach and ppe42_run_inside may add 2^63. ppe42_access, ppe42_legal and ppe42_rewrite have answers of their
+ * own. */
 static inline uint32_t ppe42_refusal(uint64_t answer) { return (uint32_t)(answer >> 32) & 0x7FFFFFFF; }
 static inline uint32_t ppe42_count(uint64_t answer) { return (uint32_t)answer; }
 static inline int ppe42_reached(uint64_t answer) { return (int)(answer >> 63); }
+
+/* The parts of an answer of ppe42_access. */
+static inline uint32_t ppe42_access_address(uint64_t answer) { return (uint32_t)answer; }
+static inline uint32_t ppe42_access_bytes(uint64_t answer) { return (uint32_t)(answer >> 32) & 0x7FFFFFFF; }
+static inline int ppe42_access_writes(uint64_t answer) { return (int)(answer >> 63); }
 
 /* A word of a state, read and written. */
 static inline uint32_t ppe42_get(const uint8_t *state, enum ppe42_place place) {
@@ -122,13 +128,44 @@ uint64_t ppe42_run(uint8_t *state, size_t state_len, uint8_t *memory, size_t mem
                    size_t events_len, uint32_t budget);
 
 /* The same run with the same answer, plus 2^63 if it reached past its memory: a fetch, a dcbz block, or a data access that
- * is no alignment interrupt fell outside. If it did not, more memory behind the same bytes gives the same run. It is slower
- * than ppe42_run. */
+ * is no alignment interrupt fell outside. If it did not, more memory behind the same bytes gives the same run. */
 uint64_t ppe42_run_reach(uint8_t *state, size_t state_len, uint8_t *memory, size_t memory_len, const uint8_t *events,
                          size_t events_len, uint32_t budget);
 
+/* The same run, but it ends already with the first step that reaches past its memory; that step is taken and counted, and the
+ * answer has 2^63 added. So an answer without it is that of a run which did not reach past. To go on after a reach, run again
+ * from what was left, with the rest of the list. */
+uint64_t ppe42_run_inside(uint8_t *state, size_t state_len, uint8_t *memory, size_t memory_len, const uint8_t *events,
+                          size_t events_len, uint32_t budget);
+
 /* One step with its event byte: a run of one. The count is 1, or 0 for a halted state. */
 uint64_t ppe42_step(uint8_t *state, size_t state_len, uint8_t *memory, size_t memory_len, uint8_t event);
+
+/* What that step would do; nothing is changed. The refusals are those of ppe42_step, and the count is one of these, by the
+ * first of the lines of a step that ends it (docs/CORE.md): halted, watchdog, interrupts, wait, instruction. A fault is told
+ * whether it is taken, promoted or halts the core. An instruction that halts the core without a fault (a trap with
+ * DBCR[TRAP], a write of DBCR[RST]) is executed: the step leaves its halt code. */
+enum ppe42_told {
+    PPE42_STAYS_HALTED = 0,               /* the core is halted: no step */
+    PPE42_EXECUTES = 1,                   /* the instruction at IAR, without fault */
+    PPE42_WAITS = 2,                      /* MSR[WE] is set */
+    PPE42_WATCHDOG_ACTS = 3,              /* by TCR[WRC]: the core halts with 4 or 5 */
+    PPE42_TAKES_EXTERNAL = 4,             /* an asynchronous interrupt is entered */
+    PPE42_TAKES_DECREMENTER = 5,
+    PPE42_TAKES_FIXED_INTERVAL = 6,
+    PPE42_TAKES_WATCHDOG = 7,
+    PPE42_FAULTS_DATA_STORAGE = 8,        /* an aligned data access, or a dcbz block, falls outside */
+    PPE42_FAULTS_INSTRUCTION_STORAGE = 9, /* IAR itself is outside: no word was fetched */
+    PPE42_FAULTS_ALIGNMENT = 10,          /* a data access is unaligned, inside or outside */
+    PPE42_FAULTS_ILLEGAL = 11,            /* the word at IAR is no instruction */
+    PPE42_FAULTS_TRAP = 12                /* a trap with DBCR[TRAP] clear */
+};
+uint64_t ppe42_tell(const uint8_t *state, size_t state_len, const uint8_t *memory, size_t memory_len, uint8_t event);
+
+/* The data access that the step would try: its first address, plus 2^32 times its length in bytes (1, 2 or 4; for dcbz the
+ * block's first address and 32), plus 2^63 if it writes. One that faults is told too. 0: none is tried, be it that the core is
+ * halted, or ppe42_step refuses. */
+uint64_t ppe42_access(const uint8_t *state, size_t state_len, const uint8_t *memory, size_t memory_len, uint8_t event);
 
 /* Whether these bytes are a capture that a run accepts: memory, state, then the words 156, the memory's length and 1. The
  * count is the length of its memory, the first bytes of the file; the state is the 144 after them. */

@@ -12,6 +12,8 @@
 enum { GUARD = 64, FILL = 0xEE, EDGE = 0x5A };
 
 #define TCR_DS 0x00400000u
+#define REACHED ((uint64_t)1 << 63)
+#define WRITES ((uint64_t)1 << 63)
 
 // The words of a state, and what a case starts from where it sets nothing.
 static const struct { const char *name; uint32_t start; } registers[PPE42_WORDS] = {
@@ -29,6 +31,25 @@ static const struct { const char *name; uint32_t start; } registers[PPE42_WORDS]
     [PPE42_XER] = {"XER", 0},              [PPE42_IAR] = {"IAR", 0},              [PPE42_HALT] = {"halt", 0},
 };
 
+// What ppe42_tell may answer, by the names of a tells line.
+static const char *const told_names[] = {
+    [PPE42_STAYS_HALTED] = "halted",
+    [PPE42_EXECUTES] = "executes",
+    [PPE42_WAITS] = "waits",
+    [PPE42_WATCHDOG_ACTS] = "watchdog-acts",
+    [PPE42_TAKES_EXTERNAL] = "external",
+    [PPE42_TAKES_DECREMENTER] = "decrementer",
+    [PPE42_TAKES_FIXED_INTERVAL] = "fixed-interval",
+    [PPE42_TAKES_WATCHDOG] = "watchdog",
+    [PPE42_FAULTS_DATA_STORAGE] = "data-storage",
+    [PPE42_FAULTS_INSTRUCTION_STORAGE] = "instruction-storage",
+    [PPE42_FAULTS_ALIGNMENT] = "alignment",
+    [PPE42_FAULTS_ILLEGAL] = "illegal",
+    [PPE42_FAULTS_TRAP] = "trap",
+};
+enum { TOLD = sizeof told_names / sizeof *told_names };
+
+struct list { uint8_t *bytes; size_t count; };
 struct piece { uint32_t at; unsigned count; uint8_t bytes[32]; };
 struct pieces { unsigned count; struct piece piece[48]; };
 
@@ -38,11 +59,11 @@ struct test {
     bool open, ran, wants, tried;
     uint32_t lend, cursor, budget, word;
     uint32_t start[PPE42_WORDS], want[PPE42_WORDS];
-    bool named[PPE42_WORDS], edr_is_word, steps_named;
+    bool named[PPE42_WORDS], edr_is_word, steps_named, access_named;
     uint32_t steps, refusal, reach;
+    uint64_t access;
     struct pieces given, wanted;
-    uint8_t *events;
-    size_t events_len;
+    struct list events, tells;
 };
 
 static const char *file;
@@ -163,51 +184,176 @@ static bool edges_kept(const uint8_t *room, size_t size) {
     return true;
 }
 
-typedef uint64_t player(uint8_t *, size_t, uint8_t *, size_t, const uint8_t *, size_t, uint32_t);
+// What one play of a case is lent, with bytes around it that must stay.
+struct lent {
+    uint8_t state_room[GUARD + PPE42_STATE + GUARD], *state;
+    uint8_t *room, *memory;
+    size_t room_len;
+};
 
-// Plays one case by one function and compares its answer and all it leaves: registers, memory, the bytes around both.
-static void check_by(const struct test *test, const char *function, player *play, uint32_t wanted_reach) {
-    uint8_t state[GUARD + PPE42_STATE + GUARD];
-    size_t room_len = GUARD + (size_t)test->lend + GUARD;
-    uint8_t *room = room_for(room_len), *memory = room + GUARD, *expected = room_for(room_len);
-    memset(state, EDGE, sizeof state);
-    memset(room, EDGE, room_len);
-    memset(memory, FILL, test->lend);
-    lay(memory, test->lend, &test->given);
-    memcpy(expected, memory, test->lend);
-    lay(expected, test->lend, &test->wanted);
-    for (int i = 0; i < PPE42_WORDS; i++) ppe42_put(state + GUARD, i, test->start[i]);
+static void lend(const struct test *test, struct lent *lent) {
+    lent->room_len = GUARD + (size_t)test->lend + GUARD;
+    lent->room = room_for(lent->room_len);
+    lent->memory = lent->room + GUARD;
+    lent->state = lent->state_room + GUARD;
+    memset(lent->state_room, EDGE, sizeof lent->state_room);
+    memset(lent->room, EDGE, lent->room_len);
+    memset(lent->memory, FILL, test->lend);
+    lay(lent->memory, test->lend, &test->given);
+    for (int i = 0; i < PPE42_WORDS; i++) ppe42_put(lent->state, i, test->start[i]);
+}
 
-    uint64_t answer =
-        play(state + GUARD, PPE42_STATE, memory, test->lend, test->events, test->events_len, test->budget);
+static uint32_t wanted_steps(const struct test *test) {
+    return test->steps_named ? test->steps : test->refusal ? 0 : test->budget;
+}
+
+// Compares an answer and all that a play left: registers, memory, the bytes around both.
+static void compare(const struct test *test, const char *function, const struct lent *lent, uint64_t answer,
+                    uint32_t wanted_reach) {
     uint32_t refusal = ppe42_refusal(answer), steps = ppe42_count(answer), reach = (uint32_t)ppe42_reached(answer);
-    uint32_t wanted_steps = test->steps_named ? test->steps : test->refusal ? 0 : test->budget;
+    uint8_t *expected = room_for(lent->room_len);
+    memset(expected, FILL, test->lend);
+    lay(expected, test->lend, &test->given);
+    lay(expected, test->lend, &test->wanted);
 
     if (refusal != test->refusal)
         differ(test, function, "refusal wanted %" PRIu32 ", found %" PRIu32, test->refusal, refusal);
-    if (steps != wanted_steps)
-        differ(test, function, "steps wanted %" PRIu32 ", found %" PRIu32, wanted_steps, steps);
+    if (steps != wanted_steps(test))
+        differ(test, function, "steps wanted %" PRIu32 ", found %" PRIu32, wanted_steps(test), steps);
     if (reach != wanted_reach)
         differ(test, function, "reach wanted %" PRIu32 ", found %" PRIu32, wanted_reach, reach);
     for (int i = 0; i < PPE42_WORDS; i++) {
-        uint32_t wanted = wanted_word(test, i, wanted_steps), found = ppe42_get(state + GUARD, i);
+        uint32_t wanted = wanted_word(test, i, wanted_steps(test)), found = ppe42_get(lent->state, i);
         if (found != wanted)
             differ(test, function, "%s wanted %08" PRIX32 ", found %08" PRIX32, registers[i].name, wanted, found);
     }
     for (uint32_t i = 0; i < test->lend; i++)
-        if (memory[i] != expected[i])
-            differ(test, function, "byte %08" PRIX32 " wanted %02X, found %02X", i, expected[i], memory[i]);
-    if (!edges_kept(state, PPE42_STATE) || !edges_kept(room, test->lend))
+        if (lent->memory[i] != expected[i])
+            differ(test, function, "byte %08" PRIX32 " wanted %02X, found %02X", i, expected[i], lent->memory[i]);
+    if (!edges_kept(lent->state_room, PPE42_STATE) || !edges_kept(lent->room, test->lend))
         differ(test, function, "a byte around what was lent has changed");
-    free(room);
     free(expected);
 }
 
-// One case, by both functions that run; ppe42_run says nothing of a reach.
+typedef uint64_t player(uint8_t *, size_t, uint8_t *, size_t, const uint8_t *, size_t, uint32_t);
+
+// Plays one case by one function.
+static void check_by(const struct test *test, const char *function, player *play, uint32_t wanted_reach) {
+    struct lent lent;
+    lend(test, &lent);
+    uint64_t answer = play(lent.state, PPE42_STATE, lent.memory, test->lend, test->events.bytes, test->events.count,
+                           test->budget);
+    compare(test, function, &lent, answer, wanted_reach);
+    free(lent.room);
+}
+
+// The run by ppe42_run_inside, gone on with after each reach until the budget is used or the core halts.
+static uint64_t run_inside(uint8_t *state, size_t state_len, uint8_t *memory, size_t memory_len,
+                           const uint8_t *events, size_t events_len, uint32_t budget) {
+    uint32_t steps = 0;
+    uint64_t reach = 0;
+    for (;;) {
+        bool left = events_len > steps;
+        uint64_t answer = ppe42_run_inside(state, state_len, memory, memory_len, left ? events + steps : NULL,
+                                           left ? events_len - steps : 0, budget - steps);
+        uint32_t count = ppe42_count(answer);
+        if (ppe42_refusal(answer) || count > budget - steps) return answer;
+        steps += count;
+        reach |= answer & REACHED;
+        if (!ppe42_reached(answer) || !count) return reach | steps;
+    }
+}
+
+typedef uint64_t asker(const uint8_t *, size_t, const uint8_t *, size_t, uint8_t);
+
+// Asks about the next step; nothing may change by that.
+static uint64_t ask(const struct test *test, const char *function, asker *asked, const struct lent *lent, size_t step) {
+    uint8_t event = step < test->events.count ? test->events.bytes[step] : 0;
+    struct lent before = *lent;
+    before.room = room_for(lent->room_len);
+    memcpy(before.room, lent->room, lent->room_len);
+    uint64_t answer = asked(lent->state, PPE42_STATE, lent->memory, test->lend, event);
+    if (memcmp(before.state_room, lent->state_room, sizeof before.state_room) ||
+        memcmp(before.room, lent->room, lent->room_len))
+        differ(test, function, "asking has changed state, memory or a byte around them");
+    free(before.room);
+    return answer;
+}
+
+// The refusal of a case's first step, which has neither the budget nor the rest of the list.
+static uint32_t step_refusal(const struct test *test) {
+    if (test->refusal >= PPE42_REFUSED_MEMORY && test->refusal <= PPE42_REFUSED_RESERVED) return test->refusal;
+    return test->events.count && test->events.bytes[0] > 63 ? PPE42_REFUSED_EVENTS : PPE42_ACCEPTED;
+}
+
+static const char *access_text(uint64_t access, char text[static 40]) {
+    if (!access) return "none";
+    snprintf(text, 40, "%s %" PRIu32 " %08" PRIX32, ppe42_access_writes(access) ? "store" : "load",
+             ppe42_access_bytes(access), ppe42_access_address(access));
+    return text;
+}
+
+// Before the first step: refusals, and the access where the case names one.
+static void check_asked(const struct test *test) {
+    struct lent lent;
+    char wanted_text[40], found_text[40];
+    uint32_t refusal = step_refusal(test);
+    lend(test, &lent);
+    uint64_t told = ask(test, "ppe42_tell", ppe42_tell, &lent, 0);
+    uint64_t access = ask(test, "ppe42_access", ppe42_access, &lent, 0);
+    if (ppe42_refusal(told) != refusal || ppe42_reached(told))
+        differ(test, "ppe42_tell", "refusal wanted %" PRIu32 ", found answer %016" PRIX64, refusal, told);
+    if (refusal && ppe42_count(told)) differ(test, "ppe42_tell", "a count beside a refusal");
+    if (refusal && access) differ(test, "ppe42_access", "an access of a step that is refused");
+    if (test->access_named && access != test->access)
+        differ(test, "ppe42_access", "wanted %s, found %s", access_text(test->access, wanted_text),
+               access_text(access, found_text));
+    free(lent.room);
+}
+
+// What ppe42_run_inside must answer by what is told of each step: the two storage faults reach past memory.
+static uint64_t wanted_inside(const struct test *test) {
+    for (size_t i = 0; i < test->tells.count; i++) {
+        uint8_t told = test->tells.bytes[i];
+        if (told == PPE42_FAULTS_DATA_STORAGE || told == PPE42_FAULTS_INSTRUCTION_STORAGE) return REACHED | (i + 1);
+    }
+    return wanted_steps(test);
+}
+
+// Step by step, with what is told before each; and the run inside, once.
+static void check_tells(const struct test *test) {
+    struct lent lent;
+    uint64_t steps = 0;
+    if (test->refusal || test->tells.count < wanted_steps(test) || test->tells.count > test->budget)
+        malformed("tells has a name for each step, and may have halted up to the budget", test->name);
+    lend(test, &lent);
+    for (size_t i = 0; i < test->tells.count; i++) {
+        uint64_t told = ask(test, "ppe42_tell", ppe42_tell, &lent, i);
+        if (told != test->tells.bytes[i])
+            differ(test, "ppe42_tell", "before step %zu wanted %s, found %s (%016" PRIX64 ")", i,
+                   told_names[test->tells.bytes[i]], told < TOLD ? told_names[told] : "no name", told);
+        uint8_t event = i < test->events.count ? test->events.bytes[i] : 0;
+        steps += ppe42_step(lent.state, PPE42_STATE, lent.memory, test->lend, event);
+    }
+    compare(test, "ppe42_step", &lent, steps, 0);
+    free(lent.room);
+
+    lend(test, &lent);
+    uint64_t inside = ppe42_run_inside(lent.state, PPE42_STATE, lent.memory, test->lend, test->events.bytes,
+                                       test->events.count, test->budget);
+    if (inside != wanted_inside(test))
+        differ(test, "ppe42_run_inside", "wanted %016" PRIX64 ", found %016" PRIX64, wanted_inside(test), inside);
+    free(lent.room);
+}
+
+// One case, by each function that runs; ppe42_run says nothing of a reach.
 static void check(const struct test *test) {
     unsigned before = differences;
     check_by(test, "ppe42_run", ppe42_run, 0);
     check_by(test, "ppe42_run_reach", ppe42_run_reach, test->reach);
+    check_by(test, "ppe42_run_inside", run_inside, test->reach);
+    check_asked(test);
+    if (test->tells.count) check_tells(test);
     cases++;
     failures += differences != before;
 }
@@ -222,23 +368,46 @@ static void finish(struct test *test) {
     if (!test->open) return;
     if (!test->ran || !test->wants) malformed("the case before this line has no run or no want", test->name);
     if (!test->tried) check(test);
-    free(test->events);
+    free(test->events.bytes);
+    free(test->tells.bytes);
     test->open = false;
 }
 
-static void read_events(struct test *test, char *rest) {
+static uint8_t event_named(const char *text) {
+    uint32_t value = number(text, 10);
+    if (value > 255) malformed("no byte", text);
+    return (uint8_t)value;
+}
+
+static uint8_t told_named(const char *text) {
+    uint8_t told = 0;
+    while (told < TOLD && strcmp(told_names[told], text)) told++;
+    if (told == TOLD) malformed("nothing that can be told", text);
+    return told;
+}
+
+// Adds each VALUE or TIMES*VALUE of a line.
+static void read_list(struct list *list, char *rest, uint8_t named(const char *text)) {
     for (char *part = strtok(rest, " \t"); part; part = strtok(NULL, " \t")) {
         char *times = strchr(part, '*');
         if (times) *times = 0;
         size_t count = times ? number(part, 10) : 1;
-        uint32_t value = number(times ? times + 1 : part, 10);
-        if (value > 255) malformed("no byte", part);
-        uint8_t *longer = realloc(test->events, test->events_len + count);
-        if (!longer) malformed("no room", "events");
-        memset(longer + test->events_len, (int)value, count);
-        test->events = longer;
-        test->events_len += count;
+        uint8_t value = named(times ? times + 1 : part);
+        uint8_t *longer = realloc(list->bytes, list->count + count);
+        if (!longer) malformed("no room", "list");
+        memset(longer + list->count, value, count);
+        list->bytes = longer;
+        list->count += count;
     }
+}
+
+static void read_access(struct test *test, char *rest) {
+    char *bytes = split(rest), *address = split(bytes);
+    bool store = !strcmp(rest, "store");
+    test->access_named = true;
+    if (!strcmp(rest, "none") && !*bytes) return;
+    if (!store && strcmp(rest, "load")) malformed("neither none, load nor store", rest);
+    test->access = (store ? WRITES : 0) | (uint64_t)number(bytes, 10) << 32 | number(address, 16);
 }
 
 static void read_bytes(struct piece *piece, char *rest) {
@@ -276,7 +445,11 @@ static void read_part(struct test *test, const char *key, char *rest) {
         char *bytes = split(rest);
         read_bytes(piece_of(test->ran ? &test->wanted : &test->given, number(rest, 16)), bytes);
     } else if (!strcmp(key, "events")) {
-        read_events(test, rest);
+        read_list(&test->events, rest, event_named);
+    } else if (!strcmp(key, "tells")) {
+        read_list(&test->tells, rest, told_named);
+    } else if (!strcmp(key, "access")) {
+        read_access(test, rest);
     } else if (!strcmp(key, "run")) {
         test->budget = number(rest, 10);
         test->ran = true;

@@ -2,7 +2,7 @@
 
 use crate::case::{Case, MOST};
 use crate::report::Difference;
-use crate::runs::Run;
+use crate::runs::{unless_same, Run};
 use crate::tally::Tally;
 use draw::Urn;
 use linked::{Library, Play};
@@ -44,13 +44,6 @@ fn continued(done: Run, play: Play, start: &Case, budget: u32) -> Run {
     let here = Case { state: done.state, memory: done.memory, events: vec![], budget };
     let more = Run::of(play, &here, rest, budget - steps);
     Run { answer: done.answer + more.answer, ..more }
-}
-
-fn unless_same(given: &Run, expected: &Run, what: &str) -> Result<(), Difference> {
-    if given == expected {
-        return Ok(());
-    }
-    Err(Difference::told(what, given.departures(expected)))
 }
 
 #[cfg(test)]

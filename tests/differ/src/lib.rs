@@ -2,6 +2,7 @@
 
 #![forbid(unsafe_code)]
 
+mod asked;
 mod captures;
 mod case;
 mod growth;
@@ -24,7 +25,9 @@ pub fn compare(library: &Library, urn: &mut Urn, tally: &mut Tally) -> Result<()
     words::compare_some(library, urn)?;
     let reference = runs::refer(&case, tally);
     let own = runs::compare_run(library, &case, &reference)?;
+    runs::compare_inside(library, &case, &own, tally)?;
     runs::compare_step(library, &case, urn, tally)?;
     captures::compare(library, &case, urn, tally)?;
-    growth::check(library, &case, &own, urn, tally)
+    growth::check(library, &case, &own, urn, tally)?;
+    asked::compare(library, &case, urn, tally)
 }

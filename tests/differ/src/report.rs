@@ -23,6 +23,14 @@ impl Difference {
     }
 }
 
+/// Answers in hex that are no count of steps.
+pub fn words(name: &str, expected: u64, given: u64) -> Vec<String> {
+    if expected == given {
+        return vec![];
+    }
+    vec![format!("{name}: expected {expected:016X}, given {given:016X}")]
+}
+
 pub fn answers(expected: u64, given: u64) -> Vec<String> {
     if expected == given {
         return vec![];

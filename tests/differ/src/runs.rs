@@ -4,7 +4,7 @@ use crate::case::{bytes, Case};
 use crate::report::{answers, before, buffers, states, word_at, Difference};
 use crate::tally::Tally;
 use draw::Urn;
-use linked::{Library, Play, REACHED};
+use linked::{Library, Play, Step, REACHED};
 
 /// What a run answered and what it left.
 #[derive(Clone, PartialEq)]
@@ -69,15 +69,39 @@ pub fn refer(case: &Case, tally: &mut Tally) -> Run {
     Run { answer, state: bytes(&core.to_words()), memory }
 }
 
-fn event(case: &Case, step: u32) -> u8 {
+pub fn event(case: &Case, step: u32) -> u8 {
     case.events.get(step as usize).copied().unwrap_or(0)
 }
 
-/// By both functions that run; the library's own run with its reach, once it is seen to be the reference's.
+/// By both functions that run to the end; the library's own run with its reach, once it is seen to be the reference's.
 pub fn compare_run(library: &Library, case: &Case, reference: &Run) -> Result<Run, Difference> {
     let silent = Run { answer: reference.answer & !REACHED, ..reference.clone() };
     compare_play("run", case, library.run, second::run, &silent)?;
     compare_play("run_reach", case, library.run_reach, second::run_reach, reference)
+}
+
+/// Up to the first step that reaches. `own` is what `compare_run` has seen of the library's other two runs: this one is
+/// the same where it tells no reach; else a run of a step less has not reached, and one of as many has.
+pub fn compare_inside(library: &Library, case: &Case, own: &Run, tally: &mut Tally) -> Result<(), Difference> {
+    let expected = Run::of(second::run_inside, case, &case.events, case.budget);
+    let given = compare_play("run_inside", case, library.run_inside, second::run_inside, &expected)?;
+    tally.inside(given.reached());
+    if !given.reached() {
+        return unless_same(&given, own, "run_inside that tells no reach, and the run");
+    }
+    let as_many = Run::of(library.run_reach, case, &case.events, given.steps());
+    unless_same(&given, &as_many, "run_inside up to a reach, and run_reach of as many steps")?;
+    if Run::of(library.run_reach, case, &case.events, given.steps() - 1).reached() {
+        return Err(Difference(format!("run_inside of {} steps, and run_reach reached before", given.steps())));
+    }
+    Ok(())
+}
+
+pub fn unless_same(given: &Run, expected: &Run, what: &str) -> Result<(), Difference> {
+    if given == expected {
+        return Ok(());
+    }
+    Err(Difference::told(what, given.departures(expected)))
 }
 
 fn compare_play(what: &str, case: &Case, theirs: Play, ours: Play, expected: &Run) -> Result<Run, Difference> {
@@ -96,36 +120,45 @@ fn locate(case: &Case, theirs: Play, ours: Play) -> String {
         let expected = Run::of(ours, case, &case.events, step + 1);
         if given != expected {
             let start = Run::of(ours, case, &case.events, step);
-            let told = told(&start.state, &start.memory, event(case, step));
+            let from = start_of(&start.state, &start.memory, event(case, step));
             let departures = given.departures(&expected).join("; ");
-            return format!("step {step}: {told}\n  after it: {departures}\n  at the end:");
+            return format!("step {step}: {from}\n  after it: {departures}\n  at the end:");
         }
     }
     "each shorter run agrees".into()
 }
 
 /// What a step starts from.
-fn told(state: &[u8], memory: &[u8], event: u8) -> String {
+pub fn start_of(state: &[u8], memory: &[u8], event: u8) -> String {
     match second::accept(state, memory, &[], 0) {
         Ok(core) => before(&core, memory, event),
         Err(refusal) => format!("refused with {refusal}"),
     }
 }
 
-/// One step from the same start, its event now and then bad.
+/// One step from the same start.
 pub fn compare_step(library: &Library, case: &Case, urn: &mut Urn, tally: &mut Tally) -> Result<(), Difference> {
-    let event = if urn.percent(5) { urn.word() as u8 } else { event(case, 0) };
+    let event = draw_event(case, urn);
     let expected = step_of(second::step, case, event);
     tally.answer_step(expected.answer);
     let given = step_of(library.step, case, event);
     if given == expected {
         return Ok(());
     }
-    let told = told(&case.state, &case.memory, event);
-    Err(Difference::told(&format!("one step: {told}"), given.departures(&expected)))
+    let start = start_of(&case.state, &case.memory, event);
+    Err(Difference::told(&format!("one step: {start}"), given.departures(&expected)))
 }
 
-fn step_of(step: fn(&mut [u8], &mut [u8], u8) -> u64, start: &Case, event: u8) -> Run {
+/// That of the case's first step, now and then a bad one.
+pub fn draw_event(case: &Case, urn: &mut Urn) -> u8 {
+    if urn.percent(5) {
+        urn.word() as u8
+    } else {
+        event(case, 0)
+    }
+}
+
+fn step_of(step: Step, start: &Case, event: u8) -> Run {
     let (mut state, mut memory) = (start.state.clone(), start.memory.clone());
     let answer = step(&mut state, &mut memory, event);
     Run { answer, state, memory }

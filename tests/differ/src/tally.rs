@@ -9,12 +9,22 @@ use std::fmt;
 /// Numbers of refusal, 0 for none.
 const REFUSALS: usize = 9;
 
+/// Things that can be told of a step.
+const TOLD: usize = 13;
+
 pub struct Tally {
     pub cases: u64,
     pub steps: u64,
     pub reached: u64,
     /// Runs that did so in some step.
     runs_reached: u64,
+    /// Runs once more up to their first reach, and those of them that one ended.
+    inside: u64,
+    inside_reached: u64,
+    /// Steps asked beforehand by what was told, and those of them that access data.
+    told: [u64; TOLD],
+    accesses: u64,
+    asked_refused: [u64; REFUSALS],
     /// Steps without an event in which TCR enables nothing and DEC counts.
     quiet: u64,
     /// Cases in which more memory and a longer run were tried.
@@ -41,6 +51,11 @@ impl Default for Tally {
             steps: 0,
             reached: 0,
             runs_reached: 0,
+            inside: 0,
+            inside_reached: 0,
+            told: [0; TOLD],
+            accesses: 0,
+            asked_refused: [0; REFUSALS],
             quiet: 0,
             grown: 0,
             executed: Kind::ALL.iter().map(|kind| (kind.mnemonic(), 0)).collect(),
@@ -98,6 +113,20 @@ impl Tally {
         self.runs[refusal as usize] += 1;
     }
 
+    pub fn inside(&mut self, reached: bool) {
+        self.inside += 1;
+        self.inside_reached += reached as u64;
+    }
+
+    /// Counts the answers to a question about a step.
+    pub fn ask(&mut self, told: u64, access: u64) {
+        self.asked_refused[(told >> 32) as usize] += 1;
+        if told >> 32 == 0 {
+            self.told[told as usize] += 1;
+            self.accesses += (access != 0) as u64;
+        }
+    }
+
     pub fn answer_step(&mut self, answer: u64) {
         self.steps_refused[(answer >> 32) as usize] += 1;
     }
@@ -144,6 +173,9 @@ impl fmt::Display for Tally {
     fn fmt(&self, f: &mut fmt::Formatter) -> fmt::Result {
         writeln!(f, "{} cases, {} steps, {} of them past memory", self.cases, self.steps, self.reached)?;
         writeln!(f, "{} runs reached past their memory", self.runs_reached)?;
+        writeln!(f, "{} runs again up to their first reach, which ended {}", self.inside, self.inside_reached)?;
+        let asked: u64 = self.told.iter().sum();
+        writeln!(f, "{asked} steps asked beforehand what they do, {} of them access data", self.accesses)?;
         writeln!(f, "{} steps without an event or anything that TCR asks for", self.quiet)?;
         writeln!(f, "{} cases run again with more memory and a longer run", self.grown)?;
         writeln!(f, "executed:")?;
@@ -166,6 +198,8 @@ impl fmt::Display for Tally {
         writeln!(f, "TCR settings at a step's start: {settings} of {}", self.timer_settings.len())?;
         writeln!(f, "runs by refusal, 0 for none: {}", list(&self.runs))?;
         writeln!(f, "steps by refusal: {}", list(&self.steps_refused))?;
+        writeln!(f, "steps asked by what was told: {}", list(&self.told))?;
+        writeln!(f, "steps asked by refusal: {}", list(&self.asked_refused))?;
         writeln!(f, "captures read by refusal: {}", list(&self.captures_read))?;
         write!(f, "captures written by refusal: {}", list(&self.captures_written))
     }

@@ -3,8 +3,8 @@
 use differ::{compare, Tally};
 use draw::Urn;
 use linked::{Library, LINKED, REACHED};
-use second::registers::{isr, msr, tcr, xer};
-use second::{Core, Fault, Kind, Outcome, Taken};
+use second::registers::{isr, msr, tcr, tsr, xer};
+use second::{Access, Asynchronous, Core, Fault, Kind, Outcome, Taken};
 use std::cell::Cell;
 
 const CASES: u64 = 50_000;
@@ -70,10 +70,12 @@ type Tell = fn(bool, Outcome, [bool; 2]) -> bool;
 
 const RIGHTLY: Tell = |so_far, outcome, _| so_far || outcome.reached();
 
-const WRONGLY: [(&str, Tell); 8] = [
+/// Wrong where a run goes on after its reach.
+const LAST_STEP: Tell = |_, outcome, _| outcome.reached();
+
+const WRONGLY: [(&str, Tell); 7] = [
     ("no run reaches", |_, _, _| false),
     ("every run reaches", |_, _, _| true),
-    ("only the last step counts", |_, outcome, _| outcome.reached()),
     ("an alignment interrupt reaches", |so_far, outcome, _| {
         so_far || outcome.reached() || matches!(outcome, Outcome::Faulted(Fault::Alignment { .. }, _))
     }),
@@ -92,14 +94,14 @@ thread_local! {
     static TELL: Cell<Tell> = const { Cell::new(RIGHTLY) };
 }
 
-/// A run of the second implementation with the flaw, which tells its reach as it is set to.
-fn flawed_run_reach(state: &mut [u8], memory: &mut [u8], events: &[u8], budget: u32) -> u64 {
+/// A run of the second implementation with the flaw, which tells its reach as it is set to, to the end or up to that.
+fn flawed(to_the_end: bool, state: &mut [u8], memory: &mut [u8], events: &[u8], budget: u32) -> u64 {
     let Ok(mut core) = second::accept(state, memory, events, budget) else {
         return second::run_reach(state, memory, events, budget);
     };
     let mut steps = 0;
     let mut reached = false;
-    while steps < budget && core.halt == 0 {
+    while steps < budget && core.halt == 0 && (to_the_end || !reached) {
         let before = core.clone();
         let outcome = core.step(memory, events.get(steps as usize).copied().unwrap_or(0));
         FLAW.get()(&before, outcome, &mut core);
@@ -109,6 +111,14 @@ fn flawed_run_reach(state: &mut [u8], memory: &mut [u8], events: &[u8], budget: 
     }
     state.copy_from_slice(&core.to_words().map(u32::to_be_bytes).concat());
     steps as u64 | if reached { REACHED } else { 0 }
+}
+
+fn flawed_run_reach(state: &mut [u8], memory: &mut [u8], events: &[u8], budget: u32) -> u64 {
+    flawed(true, state, memory, events, budget)
+}
+
+fn flawed_run_inside(state: &mut [u8], memory: &mut [u8], events: &[u8], budget: u32) -> u64 {
+    flawed(false, state, memory, events, budget)
 }
 
 fn flawed_run(state: &mut [u8], memory: &mut [u8], events: &[u8], budget: u32) -> u64 {
@@ -121,6 +131,7 @@ fn flaws_of_a_step() {
         FLAW.set(flaw);
         assert!(caught(&Library { run: flawed_run, ..LINKED }), "{name}");
         assert!(caught(&Library { run_reach: flawed_run_reach, ..LINKED }), "{name}, where the reach is told");
+        assert!(caught(&Library { run_inside: flawed_run_inside, ..LINKED }), "{name}, up to the reach");
     }
 }
 
@@ -129,9 +140,126 @@ fn flaws_of_telling_a_reach() {
     for (name, tell) in WRONGLY {
         TELL.set(tell);
         assert!(caught(&Library { run_reach: flawed_run_reach, ..LINKED }), "{name}");
+        assert!(caught(&Library { run_inside: flawed_run_inside, ..LINKED }), "{name}, up to the reach");
     }
+    TELL.set(LAST_STEP);
+    assert!(caught(&Library { run_reach: flawed_run_reach, ..LINKED }));
     TELL.set(RIGHTLY);
-    assert!(!caught(&Library { run_reach: flawed_run_reach, ..LINKED }));
+    assert!(!caught(&Library { run_reach: flawed_run_reach, run_inside: flawed_run_inside, ..LINKED }));
+}
+
+/// What is told of a step with this event: given the core, what the step comes to, and the length of memory.
+type Told = fn(&Core, Outcome, u8, usize) -> u32;
+
+const TOLD_WRONGLY: [(&str, Told); 12] = [
+    ("a halted core executes", |_, outcome, _, _| outcome.told().max(1)),
+    ("a fault that halts is a halt", |_, outcome, _, _| match outcome {
+        Outcome::Faulted(_, Taken::Halting) => 0,
+        _ => outcome.told(),
+    }),
+    ("a promoted fault is executed", |_, outcome, _, _| match outcome {
+        Outcome::Faulted(_, Taken::Promoted) => 1,
+        _ => outcome.told(),
+    }),
+    ("a trap that halts is a fault", |core, outcome, _, _| match outcome {
+        Outcome::Executed(Kind::Tw) if core.dbcr & second::registers::dbcr::TRAP != 0 => 12,
+        _ => outcome.told(),
+    }),
+    ("a trap is illegal", |_, outcome, _, _| outcome.told().min(11)),
+    ("outside comes before unaligned", |_, outcome, _, length| match outcome {
+        Outcome::Faulted(Fault::Alignment { address, .. }, _) if address as usize >= length => 8,
+        _ => outcome.told(),
+    }),
+    ("an unaligned access is one outside", |_, outcome, _, _| match outcome {
+        Outcome::Faulted(Fault::Alignment { .. }, _) => 8,
+        _ => outcome.told(),
+    }),
+    ("the two storage faults are one", |_, outcome, _, _| match outcome {
+        Outcome::Faulted(Fault::InstructionStorage, _) => 8,
+        _ => outcome.told(),
+    }),
+    ("the wait comes before an interrupt", |core, outcome, _, _| match outcome {
+        Outcome::Interrupted(_) if core.msr & msr::WE != 0 => 2,
+        _ => outcome.told(),
+    }),
+    ("the watchdog's interrupt comes before its action", |core, outcome, _, _| match outcome {
+        Outcome::WatchdogActed if core.msr & msr::EE != 0 && core.tcr & tcr::WIE != 0 => 7,
+        _ => outcome.told(),
+    }),
+    ("a request comes before the watchdog", |_, outcome, event, _| match outcome {
+        Outcome::Interrupted(Asynchronous::Watchdog) if event & 1 != 0 => 4,
+        _ => outcome.told(),
+    }),
+    ("the decrementer comes before the fixed interval", |core, outcome, _, _| match outcome {
+        Outcome::Interrupted(Asynchronous::FixedInterval) if core.tcr & tcr::DIE != 0 && core.tsr & tsr::DIS != 0 => 5,
+        _ => outcome.told(),
+    }),
+];
+
+/// What is told of a step's access: given what it rightly is, what the step comes to, and the core.
+type Accesses = fn(Option<Access>, Outcome, &Core) -> Option<Access>;
+
+const ACCESSED_WRONGLY: [(&str, Accesses); 9] = [
+    ("nothing is accessed", |_, _, _| None),
+    ("an unaligned access is not tried", |access, outcome, _| {
+        access.filter(|_| !matches!(outcome, Outcome::Faulted(Fault::Alignment { .. }, _)))
+    }),
+    ("an access outside is not tried", |access, outcome, _| {
+        access.filter(|_| !matches!(outcome, Outcome::Faulted(Fault::DataStorage { .. }, _)))
+    }),
+    ("dcbz outside begins at its own address", |access, outcome, _| match outcome {
+        Outcome::Faulted(Fault::DataStorage { address, .. }, _) => access.map(|access| Access { address, ..access }),
+        _ => access,
+    }),
+    ("dcbz is one byte", |access, _, _| access.map(|access| Access { bytes: (access.bytes % 32).max(1), ..access })),
+    ("dcbz reads", |access, _, _| {
+        access.map(|access| Access { writes: access.writes && access.bytes != 32, ..access })
+    }),
+    ("a load writes", |access, _, _| access.map(|access| Access { writes: true, ..access })),
+    ("a halfword begins at a word", |access, _, _| {
+        access.map(|access| Access { address: access.address & !3, ..access })
+    }),
+    ("a cache hint is a load", |access, outcome, core| match outcome {
+        Outcome::Executed(Kind::Dcbt) => Some(Access { address: core.gpr[4], bytes: 1, writes: false }),
+        _ => access,
+    }),
+];
+
+thread_local! {
+    static TOLD: Cell<Told> = const { Cell::new(|_, outcome, _, _| outcome.told()) };
+    static ACCESSES: Cell<Accesses> = const { Cell::new(|access, _, _| access) };
+}
+
+fn flawed_tell(state: &mut [u8], memory: &mut [u8], event: u8) -> u64 {
+    match second::accept(state, memory, &[event], 1) {
+        Ok(core) => TOLD.get()(&core, core.tell(memory, event), event, memory.len()) as u64,
+        Err(refusal) => (refusal as u64) << 32,
+    }
+}
+
+fn flawed_access(state: &mut [u8], memory: &mut [u8], event: u8) -> u64 {
+    let Ok(core) = second::accept(state, memory, &[event], 1) else {
+        return 0;
+    };
+    ACCESSES.get()(core.access(memory, event), core.tell(memory, event), &core).map_or(0, Access::answer)
+}
+
+#[test]
+fn flaws_of_telling_a_step() {
+    assert!(!caught(&Library { tell: flawed_tell, ..LINKED }));
+    for (name, told) in TOLD_WRONGLY {
+        TOLD.set(told);
+        assert!(caught(&Library { tell: flawed_tell, ..LINKED }), "{name}");
+    }
+}
+
+#[test]
+fn flaws_of_telling_an_access() {
+    assert!(!caught(&Library { access: flawed_access, ..LINKED }));
+    for (name, accesses) in ACCESSED_WRONGLY {
+        ACCESSES.set(accesses);
+        assert!(caught(&Library { access: flawed_access, ..LINKED }), "{name}");
+    }
 }
 
 fn lhzu_into_its_base_is_legal(word: u32) -> u32 {
@@ -163,6 +291,64 @@ fn refused_run_reaches(state: &mut [u8], memory: &mut [u8], events: &[u8], budge
     match second::run_reach(state, memory, events, budget) {
         refusal @ 0x1_0000_0000..REACHED => refusal | REACHED,
         answer => answer,
+    }
+}
+
+fn reach_is_not_counted(state: &mut [u8], memory: &mut [u8], events: &[u8], budget: u32) -> u64 {
+    match second::run_inside(state, memory, events, budget) {
+        reached @ REACHED.. => reached - 1,
+        answer => answer,
+    }
+}
+
+fn reach_is_not_taken(state: &mut [u8], memory: &mut [u8], events: &[u8], budget: u32) -> u64 {
+    let (state_before, memory_before) = (state.to_vec(), memory.to_vec());
+    let answer = second::run_inside(state, memory, events, budget);
+    if answer & REACHED != 0 {
+        state.copy_from_slice(&state_before);
+        memory.copy_from_slice(&memory_before);
+        second::run(state, memory, events, answer as u32 - 1);
+    }
+    answer
+}
+
+fn told_step_is_taken(state: &mut [u8], memory: &mut [u8], event: u8) -> u64 {
+    let told = second::tell(state, memory, event);
+    second::step(state, memory, event);
+    told
+}
+
+fn told_store_is_done(state: &mut [u8], memory: &mut [u8], event: u8) -> u64 {
+    let access = second::access(state, memory, event);
+    if access & REACHED != 0 {
+        memory.iter_mut().skip(access as u32 as usize).take(1).for_each(|byte| *byte = !*byte);
+    }
+    access
+}
+
+fn event_64_is_told(state: &mut [u8], memory: &mut [u8], event: u8) -> u64 {
+    second::tell(state, memory, event & !64)
+}
+
+fn event_is_not_seen(state: &mut [u8], memory: &mut [u8], event: u8) -> u64 {
+    second::tell(state, memory, if event < 64 { 0 } else { event })
+}
+
+fn interrupts_do_not_come_first(state: &mut [u8], memory: &mut [u8], event: u8) -> u64 {
+    second::access(state, memory, if event < 64 { 0 } else { event })
+}
+
+fn refused_tell_has_a_count(state: &mut [u8], memory: &mut [u8], event: u8) -> u64 {
+    match second::tell(state, memory, event) {
+        refusal @ 0x1_0000_0000.. => refusal | 1,
+        told => told,
+    }
+}
+
+fn access_is_refused(state: &mut [u8], memory: &mut [u8], event: u8) -> u64 {
+    match second::tell(state, memory, event) {
+        refusal @ 0x1_0000_0000.. => refusal,
+        _ => second::access(state, memory, event),
     }
 }
 
@@ -203,7 +389,18 @@ fn flaws_of_single_functions() {
     assert!(caught(&Library { run: halt_code_is_checked_before_iar, ..LINKED }));
     assert!(caught(&Library { run: second::run_reach, ..LINKED }));
     assert!(caught(&Library { run_reach: refused_run_reaches, ..LINKED }));
+    assert!(caught(&Library { run_inside: second::run, ..LINKED }));
+    assert!(caught(&Library { run_inside: second::run_reach, ..LINKED }));
+    assert!(caught(&Library { run_inside: reach_is_not_counted, ..LINKED }));
+    assert!(caught(&Library { run_inside: reach_is_not_taken, ..LINKED }));
     assert!(caught(&Library { step: event_64_is_taken, ..LINKED }));
+    assert!(caught(&Library { tell: told_step_is_taken, ..LINKED }));
+    assert!(caught(&Library { tell: event_64_is_told, ..LINKED }));
+    assert!(caught(&Library { tell: event_is_not_seen, ..LINKED }));
+    assert!(caught(&Library { tell: refused_tell_has_a_count, ..LINKED }));
+    assert!(caught(&Library { access: told_store_is_done, ..LINKED }));
+    assert!(caught(&Library { access: interrupts_do_not_come_first, ..LINKED }));
+    assert!(caught(&Library { access: access_is_refused, ..LINKED }));
     assert!(caught(&Library { capture_check: form_0_is_read, ..LINKED }));
     assert!(caught(&Library { capture_check: refused_capture_has_a_memory, ..LINKED }));
     assert!(caught(&Library { capture_check: file_is_all_memory, ..LINKED }));
@@ -215,9 +412,12 @@ fn the_second_implementation_agrees_with_itself() {
     assert!(!caught(&Library {
         run: second::run,
         run_reach: second::run_reach,
+        run_inside: second::run_inside,
         step: second::step,
         capture_check: second::capture_check,
         capture_write: second::capture_write,
+        tell: |state, memory, event| second::tell(state, memory, event),
+        access: |state, memory, event| second::access(state, memory, event),
         ..LINKED
     }));
 }

@@ -52,6 +52,21 @@ pub unsafe extern "C" fn ppe42_run_reach(
 /// # Safety
 /// See the top.
 #[no_mangle]
+pub unsafe extern "C" fn ppe42_run_inside(
+    state: *mut u8,
+    state_len: usize,
+    memory: *mut u8,
+    memory_len: usize,
+    events: *const u8,
+    events_len: usize,
+    budget: u32,
+) -> u64 {
+    second::run_inside(lent_mut(state, state_len), lent_mut(memory, memory_len), lent(events, events_len), budget)
+}
+
+/// # Safety
+/// See the top.
+#[no_mangle]
 pub unsafe extern "C" fn ppe42_step(
     state: *mut u8,
     state_len: usize,
@@ -60,6 +75,32 @@ pub unsafe extern "C" fn ppe42_step(
     event: u8,
 ) -> u64 {
     second::step(lent_mut(state, state_len), lent_mut(memory, memory_len), event)
+}
+
+/// # Safety
+/// See the top.
+#[no_mangle]
+pub unsafe extern "C" fn ppe42_tell(
+    state: *const u8,
+    state_len: usize,
+    memory: *const u8,
+    memory_len: usize,
+    event: u8,
+) -> u64 {
+    second::tell(lent(state, state_len), lent(memory, memory_len), event)
+}
+
+/// # Safety
+/// See the top.
+#[no_mangle]
+pub unsafe extern "C" fn ppe42_access(
+    state: *const u8,
+    state_len: usize,
+    memory: *const u8,
+    memory_len: usize,
+    event: u8,
+) -> u64 {
+    second::access(lent(state, state_len), lent(memory, memory_len), event)
 }
 
 /// # Safety

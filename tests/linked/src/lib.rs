@@ -24,7 +24,18 @@ extern "C" {
         events_len: usize,
         budget: u32,
     ) -> u64;
+    fn ppe42_run_inside(
+        state: *mut u8,
+        state_len: usize,
+        memory: *mut u8,
+        memory_len: usize,
+        events: *const u8,
+        events_len: usize,
+        budget: u32,
+    ) -> u64;
     fn ppe42_step(state: *mut u8, state_len: usize, memory: *mut u8, memory_len: usize, event: u8) -> u64;
+    fn ppe42_tell(state: *const u8, state_len: usize, memory: *const u8, memory_len: usize, event: u8) -> u64;
+    fn ppe42_access(state: *const u8, state_len: usize, memory: *const u8, memory_len: usize, event: u8) -> u64;
     fn ppe42_capture_check(file: *const u8, len: usize) -> u64;
     fn ppe42_capture_write(
         state: *const u8,
@@ -38,6 +49,9 @@ extern "C" {
 
 /// A function that plays a run: given state, memory, event list and budget.
 pub type Play = fn(&mut [u8], &mut [u8], &[u8], u32) -> u64;
+
+/// A function of one step: given state, memory and event byte.
+pub type Step = fn(&mut [u8], &mut [u8], u8) -> u64;
 
 /// Added to the answer of a run that reached past its memory.
 pub const REACHED: u64 = 1 << 63;
@@ -53,14 +67,21 @@ pub struct Library {
     pub run: Play,
     /// The same, and `REACHED` where it is due.
     pub run_reach: Play,
-    pub step: fn(&mut [u8], &mut [u8], u8) -> u64,
+    /// The same up to the first step that reaches.
+    pub run_inside: Play,
+    pub step: Step,
+    /// Refusal * 2^32 + what the step would do; it may write what it is lent, so that one which does is caught.
+    pub tell: Step,
+    /// Address + bytes * 2^32, + 2^63 if it writes, or 0; lent the same way.
+    pub access: Step,
     /// Refusal * 2^32 + the length of the capture's memory.
     pub capture_check: fn(&[u8]) -> u64,
     /// Refusal * 2^32 + bytes written.
     pub capture_write: fn(&[u8], &[u8], &mut [u8]) -> u64,
 }
 
-pub const LINKED: Library = Library { legal, rewrite, run, run_reach, step, capture_check, capture_write };
+pub const LINKED: Library =
+    Library { legal, rewrite, run, run_reach, run_inside, step, tell, access, capture_check, capture_write };
 
 // SAFETY, for each call: the library touches nothing but the buffers that it is lent, within their lengths.
 
@@ -100,8 +121,30 @@ fn run_reach(state: &mut [u8], memory: &mut [u8], events: &[u8], budget: u32) ->
     }
 }
 
+fn run_inside(state: &mut [u8], memory: &mut [u8], events: &[u8], budget: u32) -> u64 {
+    unsafe {
+        ppe42_run_inside(
+            state.as_mut_ptr(),
+            state.len(),
+            memory.as_mut_ptr(),
+            memory.len(),
+            events.as_ptr(),
+            events.len(),
+            budget,
+        )
+    }
+}
+
 fn step(state: &mut [u8], memory: &mut [u8], event: u8) -> u64 {
     unsafe { ppe42_step(state.as_mut_ptr(), state.len(), memory.as_mut_ptr(), memory.len(), event) }
+}
+
+fn tell(state: &mut [u8], memory: &mut [u8], event: u8) -> u64 {
+    unsafe { ppe42_tell(state.as_mut_ptr(), state.len(), memory.as_mut_ptr(), memory.len(), event) }
+}
+
+fn access(state: &mut [u8], memory: &mut [u8], event: u8) -> u64 {
+    unsafe { ppe42_access(state.as_mut_ptr(), state.len(), memory.as_mut_ptr(), memory.len(), event) }
 }
 
 fn capture_check(file: &[u8]) -> u64 {

@@ -190,11 +190,11 @@ impl Core {
         }
     }
 
-    fn displaced(&self, word: Word) -> u32 {
+    pub(crate) fn displaced(&self, word: Word) -> u32 {
         self.base(word).wrapping_add(word.si())
     }
 
-    fn indexed(&self, word: Word) -> u32 {
+    pub(crate) fn indexed(&self, word: Word) -> u32 {
         self.base(word).wrapping_add(self.gpr[word.rb()])
     }
 

@@ -11,6 +11,7 @@ mod refusals;
 pub mod registers;
 mod special;
 mod step;
+mod tell;
 mod timers;
 mod word;
 
@@ -18,6 +19,7 @@ pub use arithmetic::mask;
 pub use interrupts::{Asynchronous, Fault, Taken};
 pub use registers::Core;
 pub use step::Outcome;
+pub use tell::Access;
 pub use word::{spr, Kind, Word};
 
 use refusals::{check_budget, check_core, check_events};
@@ -40,11 +42,23 @@ pub fn run(state: &mut [u8], memory: &mut [u8], events: &[u8], budget: u32) -> u
 
 /// The same run and answer, + 2^63 if the run reached past its memory.
 pub fn run_reach(state: &mut [u8], memory: &mut [u8], events: &[u8], budget: u32) -> u64 {
+    run_telling(Core::run_reach, state, memory, events, budget)
+}
+
+/// The same, but the run ends already with the first step that reaches past its memory.
+pub fn run_inside(state: &mut [u8], memory: &mut [u8], events: &[u8], budget: u32) -> u64 {
+    run_telling(Core::run_inside, state, memory, events, budget)
+}
+
+/// A run that gives its steps and whether it reached.
+type Telling = fn(&mut Core, &mut [u8], &[u8], u32) -> (u32, bool);
+
+fn run_telling(run: Telling, state: &mut [u8], memory: &mut [u8], events: &[u8], budget: u32) -> u64 {
     let mut core = match accept(state, memory, events, budget) {
         Ok(core) => core,
         Err(refusal) => return answer(Err(refusal)),
     };
-    let (steps, reached) = core.run_reach(memory, events, budget);
+    let (steps, reached) = run(&mut core, memory, events, budget);
     capture::write_words(&core.to_words(), state);
     answer(Ok(steps)) | (reached as u64) << 63
 }
@@ -52,6 +66,17 @@ pub fn run_reach(state: &mut [u8], memory: &mut [u8], events: &[u8], budget: u32
 /// The same as `run` for one step.
 pub fn step(state: &mut [u8], memory: &mut [u8], event: u8) -> u64 {
     run(state, memory, &[event], 1)
+}
+
+/// Refusal of that step * 2^32 + what it would come to, by its number.
+pub fn tell(state: &[u8], memory: &[u8], event: u8) -> u64 {
+    answer(accept(state, memory, &[event], 1).map(|core| core.tell(memory, event).told()))
+}
+
+/// The data access that the step would try, or 0 if it tries none or is refused.
+pub fn access(state: &[u8], memory: &[u8], event: u8) -> u64 {
+    let access = accept(state, memory, &[event], 1).ok().and_then(|core| core.access(memory, event));
+    access.map_or(0, Access::answer)
 }
 
 /// The core that a run starts from, or its refusal.

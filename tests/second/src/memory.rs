@@ -2,7 +2,8 @@
 
 use crate::interrupts::Fault;
 
-const BLOCK: u32 = 32;
+/// Bytes that dcbz clears, from a multiple of as many on.
+pub const BLOCK: u32 = 32;
 
 /// Where an access of SIZE bytes falls. Memory is whole blocks, so an aligned start inside is an end inside.
 fn place<const SIZE: u32>(memory: &[u8], address: u32, store: bool) -> Result<usize, Fault> {
@@ -40,9 +41,14 @@ pub fn store<const SIZE: u32>(memory: &mut [u8], address: u32, value: u32) -> Re
     Ok(())
 }
 
+/// Where the block that has this address begins.
+pub fn block_of(address: u32) -> u32 {
+    address - address % BLOCK
+}
+
 /// dcbz: EDR would hold the address as computed, not the block's.
 pub fn clear_block(memory: &mut [u8], address: u32) -> Result<(), Fault> {
-    let at = (address - address % BLOCK) as usize;
+    let at = block_of(address) as usize;
     match memory.get_mut(at..at + BLOCK as usize) {
         Some(block) => {
             block.fill(0);

@@ -29,34 +29,40 @@ impl Outcome {
 
 impl Core {
     /// One step on a state, memory and event that no refusal meets.
-    // Two loops have it: a call in each step would slow them by two or three percent.
+    // Three loops have it: a call in each step would slow them by two or three percent.
     #[inline(always)]
     pub fn step(&mut self, memory: &mut [u8], event: u8) -> Outcome {
-        if self.halt != 0 {
-            return Outcome::AlreadyHalted;
-        }
-        match self.apply(event) {
-            Watchdog::Quiet => {}
-            Watchdog::Halt => {
-                self.halt = WATCHDOG_HALT;
-                return Outcome::WatchdogActed;
-            }
-            Watchdog::Reset => {
-                self.halt = WATCHDOG_RESET;
-                return Outcome::WatchdogActed;
-            }
-        }
-        if let Some(cause) = self.due(event) {
-            self.interrupt(cause);
-            return Outcome::Interrupted(cause);
-        }
-        if self.msr & msr::WE != 0 {
-            return Outcome::Waited;
+        if let Some(outcome) = self.begin(event) {
+            return outcome;
         }
         match self.fetch_and_execute(memory) {
             Ok(kind) => Outcome::Executed(kind),
             Err(fault) => Outcome::Faulted(fault, self.fault(fault)),
         }
+    }
+
+    /// Lines 1 to 5, and what the step came to if it ends with one of them.
+    #[inline(always)]
+    pub(crate) fn begin(&mut self, event: u8) -> Option<Outcome> {
+        if self.halt != 0 {
+            return Some(Outcome::AlreadyHalted);
+        }
+        match self.apply(event) {
+            Watchdog::Quiet => {}
+            Watchdog::Halt => {
+                self.halt = WATCHDOG_HALT;
+                return Some(Outcome::WatchdogActed);
+            }
+            Watchdog::Reset => {
+                self.halt = WATCHDOG_RESET;
+                return Some(Outcome::WatchdogActed);
+            }
+        }
+        if let Some(cause) = self.due(event) {
+            self.interrupt(cause);
+            return Some(Outcome::Interrupted(cause));
+        }
+        (self.msr & msr::WE != 0).then_some(Outcome::Waited)
     }
 
     fn fetch_and_execute(&mut self, memory: &mut [u8]) -> Result<Kind, Fault> {
@@ -68,22 +74,39 @@ impl Core {
 
     /// The number of steps taken: up to the one that halts, at most the budget.
     pub fn run(&mut self, memory: &mut [u8], events: &[u8], budget: u32) -> u32 {
-        self.play(memory, events, budget, |_| ())
+        self.play(memory, events, budget, |_| true)
     }
 
     /// The same, and whether a step of the run reached past memory.
     pub fn run_reach(&mut self, memory: &mut [u8], events: &[u8], budget: u32) -> (u32, bool) {
         let mut reached = false;
-        let steps = self.play(memory, events, budget, |outcome| reached |= outcome.reached());
+        let steps = self.play(memory, events, budget, |outcome| {
+            reached |= outcome.reached();
+            true
+        });
         (steps, reached)
     }
 
-    fn play(&mut self, memory: &mut [u8], events: &[u8], budget: u32, mut see: impl FnMut(Outcome)) -> u32 {
+    /// The same, but the first step that reaches past memory is the last.
+    pub fn run_inside(&mut self, memory: &mut [u8], events: &[u8], budget: u32) -> (u32, bool) {
+        let mut reached = false;
+        let steps = self.play(memory, events, budget, |outcome| {
+            reached = outcome.reached();
+            !reached
+        });
+        (steps, reached)
+    }
+
+    /// Goes on after a step if what it came to lets it.
+    fn play(&mut self, memory: &mut [u8], events: &[u8], budget: u32, mut on: impl FnMut(Outcome) -> bool) -> u32 {
         let mut steps = 0;
         while steps < budget && self.halt == 0 {
             let event = events.get(steps as usize).copied().unwrap_or(0);
-            see(self.step(memory, event));
+            let outcome = self.step(memory, event);
             steps += 1;
+            if !on(outcome) {
+                break;
+            }
         }
         steps
     }

@@ -9,15 +9,34 @@ use second::Core;
 /// Bytes of lent memory: enough for the vectors up to the external interrupt's.
 const M: u32 = 0xC0;
 
+type Run = fn(&mut [u8], &mut [u8], &[u8], u32) -> u64;
+
+const REACHED: u64 = 1 << 63;
+
+/// What a run answers and leaves.
+fn played(run: Run, core: &Core, memory: &[u8], events: &[u8], budget: u32) -> (u64, Vec<u8>, Vec<u8>) {
+    let (mut state, mut memory) = (core.to_words().map(u32::to_be_bytes).concat(), memory.to_vec());
+    (run(&mut state, &mut memory, events, budget), state, memory)
+}
+
 /// The steps of a run and whether it reached, once `run` is seen to leave the same and to answer it without the bit.
 fn told(core: &Core, memory: &[u8], events: &[u8], budget: u32) -> (u32, bool) {
-    let start = core.to_words().map(u32::to_be_bytes).concat();
-    let (mut state, mut lent) = (start.clone(), memory.to_vec());
-    let answer = second::run_reach(&mut state, &mut lent, events, budget);
-    let (mut plain_state, mut plain_lent) = (start, memory.to_vec());
-    let plain = second::run(&mut plain_state, &mut plain_lent, events, budget);
-    assert_eq!((answer & !(1 << 63), state, lent), (plain, plain_state, plain_lent));
-    (plain as u32, answer >> 63 == 1)
+    let (answer, state, lent) = played(second::run_reach, core, memory, events, budget);
+    assert_eq!((answer & !REACHED, state, lent), played(second::run, core, memory, events, budget));
+    stays_inside(core, memory, events, budget);
+    (answer as u32, answer & REACHED != 0)
+}
+
+/// `run_inside` is `run` where it tells no reach; else a run of a step less has not reached, and one of as many has.
+fn stays_inside(core: &Core, memory: &[u8], events: &[u8], budget: u32) {
+    let inside = played(second::run_inside, core, memory, events, budget);
+    if inside.0 & REACHED == 0 {
+        assert_eq!(inside, played(second::run_reach, core, memory, events, budget));
+        return;
+    }
+    let steps = inside.0 as u32;
+    assert_eq!(played(second::run_reach, core, memory, events, steps - 1).0, steps as u64 - 1);
+    assert_eq!(inside, played(second::run_reach, core, memory, events, steps));
 }
 
 /// Whether so many steps reach in memory that starts with the words.
@@ -156,8 +175,37 @@ fn one_reach_is_a_reach_of_the_run() {
         assert_eq!(told(&start, &memory, &[], budget), (budget, true));
     }
     let (mut rest, mut lent) = (start, memory);
-    rest.run(&mut lent, &[], 1);
+    assert_eq!(rest.run_inside(&mut lent, &[], 9), (1, true));
     assert_eq!(told(&rest, &lent, &[], 9), (9, false), "the same run gone on with after its reach");
+}
+
+#[test]
+fn each_reach_ends_a_run_inside() {
+    let mut words = vec![0; M as usize / 4];
+    words[..3].copy_from_slice(&[NOP, NOP, d_form(36, 3, 0, M)]);
+    words[0x60 / 4] = RFI;
+    let (mut core, mut memory) = (core(), memory(&words, M as usize));
+    assert_eq!(core.run_inside(&mut memory, &[], 2), (2, false), "the budget is used before it");
+    assert_eq!(core.run_inside(&mut memory, &[], 0), (0, false));
+    assert_eq!(core.run_inside(&mut memory, &[], 1), (1, true), "with the last step");
+    for _ in 0..3 {
+        assert_eq!(core.run_inside(&mut memory, &[], 9), (2, true), "rfi, and the store again");
+    }
+    core.msr = 0;
+    core.iar = 8;
+    assert_eq!(core.run_inside(&mut memory, &[], 9), (1, true), "the step that halts");
+    assert_eq!((core.halt, core.run_inside(&mut memory, &[], 9)), (1, (0, false)));
+}
+
+#[test]
+fn a_run_inside_uses_its_events_up_to_the_reach() {
+    let words = [NOP, d_form(32, 3, 0, M)];
+    let mut start = core();
+    start.msr |= msr::EE;
+    let memory = memory(&words, M as usize);
+    let steps = |events: &[u8]| start.clone().run_inside(&mut memory.clone(), events, 2);
+    assert_eq!(steps(&[0, 0, 1]), (2, true));
+    assert_eq!(steps(&[0, 1]), (2, false), "interrupted before the load");
 }
 
 /// Demand 3: more memory serves the access that fell outside; where none did, it changes nothing.

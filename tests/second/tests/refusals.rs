@@ -27,10 +27,23 @@ fn refusal(state: &[u8], memory_length: usize, events: &[u8], budget: u32) -> u6
     let before = memory.clone();
     let answer = second::run(&mut after, &mut memory, events, budget);
     assert!(answer >> 32 == 0 || (after == state && memory == before && answer as u32 == 0));
-    let (mut after_reach, mut memory_reach) = (state.to_vec(), before);
-    assert_eq!(second::run_reach(&mut after_reach, &mut memory_reach, events, budget), answer);
-    assert_eq!((after_reach, memory_reach), (after, memory));
+    for run in [second::run_reach, second::run_inside] {
+        let (mut after_too, mut memory_too) = (state.to_vec(), before.clone());
+        assert_eq!(run(&mut after_too, &mut memory_too, events, budget), answer);
+        assert_eq!((&after_too, &memory_too), (&after, &memory));
+    }
+    asked_alike(state, &before, events.first().copied().unwrap_or(0));
     answer >> 32
+}
+
+/// `tell` is refused as `step` is, and `access` has none then.
+fn asked_alike(state: &[u8], memory: &[u8], event: u8) {
+    let refusal = second::step(&mut state.to_vec(), &mut memory.to_vec(), event) >> 32;
+    assert_eq!(second::tell(state, memory, event) >> 32, refusal);
+    if refusal != 0 {
+        assert_eq!(second::tell(state, memory, event), refusal << 32);
+        assert_eq!(second::access(state, memory, event), 0);
+    }
 }
 
 #[test]
@@ -103,6 +116,7 @@ fn no_steps() {
     assert_eq!(second::step(&mut halted, &mut memory, 63), 0);
     assert_eq!(halted, with(HALT, 4));
     assert_eq!(second::step(&mut halted, &mut memory, 64), 5 << 32);
+    asked_alike(&halted, &memory, 64);
     let mut running = with(0, 0);
     assert_eq!(second::run(&mut running, &mut memory, &[63], 0), 0);
     assert_eq!(running, with(0, 0));

@@ -1,7 +1,10 @@
-//! `speed [RUNS]`: steps a second of the linked library (`core`, and `reach`, which tells whether it reached past its memory),
-//! of the plain interpreter `second` and of Unicorn where it is built in, on the same loops, and how many times as fast as
-//! `second` the others are. Each figure is the best of RUNS runs.
+//! `speed [RUNS]`: steps a second of the linked library (`core`; `inside`, which ends with the first step that reaches past its
+//! memory; `reach`, which tells whether one did), of the plain interpreter `second` and of Unicorn where it is built in, on the
+//! same loops, and how many times as fast as `second` the others are. Each figure is the best of RUNS runs.
+//!
+//! `speed PROGRAM STEPS RUNS`: the everyday bench, run as a user does, beside runs of the library one after the other.
 
+mod everyday;
 mod loops;
 mod players;
 
@@ -15,17 +18,23 @@ const STEPS: u32 = 1 << 18;
 const SIZE: usize = 1 << 12;
 
 fn main() {
-    let runs = std::env::args().nth(1).and_then(|word| word.parse().ok()).unwrap_or(RUNS);
+    let arguments: Vec<String> = std::env::args().skip(1).collect();
+    if let [program, steps, runs] = &arguments[..] {
+        return everyday::compare(program, steps.parse().expect("steps"), runs.parse().expect("runs"));
+    }
+    let runs = arguments.first().and_then(|word| word.parse().ok()).unwrap_or(RUNS);
     println!("the best of {runs} runs; a ratio is one of speeds: 2.00 is twice as fast as second");
     let heads = [
         "loop",
         "M",
         "steps",
         "core steps/s",
+        "inside steps/s",
         "reach steps/s",
         "second steps/s",
         "Unicorn steps/s",
         "core/second",
+        "inside/second",
         "reach/second",
         "Unicorn/second",
     ];
@@ -43,7 +52,7 @@ fn main() {
 
 fn measure(each: &Loop, size: usize, steps: u32, runs: u32) {
     let best = best(each, size, steps, runs);
-    let (core, reach, second, unicorn) = (&best[0], &best[1], &best[2], best.get(3));
+    let (core, inside, reach, second, unicorn) = (&best[0], &best[1], &best[2], &best[3], best.get(4));
     let rate = |seconds: &f64| format!("{:.0}", f64::from(steps) / seconds);
     let ratio = |seconds: &f64| format!("{:.2}", second / seconds);
     let none = || "-".to_string();
@@ -52,10 +61,12 @@ fn measure(each: &Loop, size: usize, steps: u32, runs: u32) {
         size.to_string(),
         steps.to_string(),
         rate(core),
+        rate(inside),
         rate(reach),
         rate(second),
         unicorn.map_or_else(none, rate),
         ratio(core),
+        ratio(inside),
         ratio(reach),
         unicorn.map_or_else(none, ratio),
     ]);
@@ -76,8 +87,8 @@ fn best(each: &Loop, size: usize, steps: u32, runs: u32) -> Vec<f64> {
     best
 }
 
-fn show(cells: [String; 10]) {
-    const WIDTHS: [usize; 9] = [7, 6, 12, 13, 14, 15, 11, 12, 14];
+fn show(cells: [String; 12]) {
+    const WIDTHS: [usize; 11] = [7, 6, 12, 14, 13, 14, 15, 11, 13, 12, 14];
     let [name, rest @ ..] = cells;
     let rest: Vec<_> = rest.iter().zip(WIDTHS).map(|(cell, width)| format!("{cell:>width$}")).collect();
     println!("{name:10} {}", rest.join(" "));

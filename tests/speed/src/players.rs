@@ -12,18 +12,25 @@ pub type Player = fn(&mut State, u32) -> f64;
 
 pub const PLAYERS: &[Player] = &[
     |state, steps| play(LINKED.run, state, steps),
+    |state, steps| play(LINKED.run_inside, state, steps),
     |state, steps| play(LINKED.run_reach, state, steps),
     |state, steps| play(second::run, state, steps),
     #[cfg(feature = "unicorn")]
     emulate,
 ];
 
-fn play(run: fn(&mut [u8], &mut [u8], &[u8], u32) -> u64, state: &mut State, steps: u32) -> f64 {
+/// The state as the library takes it.
+pub fn record(state: &State) -> [u8; second::STATE] {
     let mut record = [0; second::STATE];
     for (bytes, gpr) in record.chunks_exact_mut(4).zip(state.gprs) {
         bytes.copy_from_slice(&gpr.to_be_bytes());
     }
     record[TCR..TCR + 4].copy_from_slice(&state.tcr.to_be_bytes());
+    record
+}
+
+fn play(run: fn(&mut [u8], &mut [u8], &[u8], u32) -> u64, state: &mut State, steps: u32) -> f64 {
+    let mut record = record(state);
     let began = Instant::now();
     let answer = run(&mut record, &mut state.memory, &[], steps);
     let seconds = began.elapsed().as_secs_f64();

@@ -51,6 +51,7 @@ pub fn mfspr(rt: u32, number: u32) -> u32 {
     x_form(rt, number & 31, number >> 5, 339, 0)
 }
 
+pub const NOP: u32 = 0x6000_0000;
 pub const BRANCH_TO_ITSELF: u32 = 0x4800_0000;
 pub const RFI: u32 = 0x4C00_0064;
 pub const TRAP: u32 = 0x7FE0_0008;

@@ -1,0 +1,126 @@
+//! The command line.
+
+use clap::{Args, Parser, Subcommand};
+use std::path::PathBuf;
+
+/// The everyday bench: captures of a PPE 42 core made, shown, run, traced and compared, by the proved library.
+///
+/// Steps are numbered from 0. Addresses and words are in hex, sizes and counts decimal (K, M and G are thousands). Exit
+/// status: 0 all is well; 1 not as expected, a difference, or words that the core lacks; 2 the input is wrong, and an old
+/// output is as it was. docs/CORE.md says what captures, event bytes, halt codes and refusals are.
+#[derive(Parser)]
+#[command(name = "ppe42", bin_name = "./ppe42", disable_help_subcommand = true)]
+pub struct Command {
+    #[command(subcommand)]
+    pub what: What,
+}
+
+#[derive(Subcommand)]
+pub enum What {
+    /// Firmware, an ELF or a raw binary, to a capture; names the words that the core lacks
+    Make(Make),
+    /// Registers by name, what MSR and DBCR mean, and memory
+    Show(Show),
+    /// Play a capture and say why it stopped and what changed
+    Run(Run),
+    /// A line a step: what it did, what it changed
+    Trace(Trace),
+    /// Registers and memory that differ, old and new
+    Diff(Diff),
+}
+
+#[derive(Args)]
+pub struct Make {
+    /// An ELF for 32-bit PowerPC, or a raw binary that begins at address 0
+    pub firmware: PathBuf,
+    /// The capture to write
+    #[arg(short, long, value_name = "CAPTURE")]
+    pub out: PathBuf,
+    /// Bytes of memory to lend: a multiple of 32, at most 1048576
+    #[arg(long, value_name = "BYTES")]
+    pub memory: String,
+    /// A register's start; all are 0 but IAR, which has the ELF's entry
+    #[arg(long, value_name = "NAME=HEX")]
+    pub set: Vec<String>,
+    /// Write the capture even if the core lacks words of the firmware
+    #[arg(long)]
+    pub anyway: bool,
+}
+
+#[derive(Args)]
+pub struct Show {
+    /// The capture to show
+    pub capture: PathBuf,
+    /// Memory from an address up to another, as in 100..140
+    #[arg(long, value_name = "FROM..TO")]
+    pub memory: Option<String>,
+    /// The ELF that the capture was made of, for symbols
+    #[arg(long, value_name = "ELF")]
+    pub elf: Option<PathBuf>,
+}
+
+#[derive(Args)]
+pub struct Run {
+    /// The capture to play; it stays as it is
+    pub capture: PathBuf,
+    /// Steps at most
+    #[arg(long, value_name = "COUNT", default_value = "1M")]
+    pub steps: String,
+    /// Events: lines like 'at 100 1', 'every 50 timer0', 'from 200 to 260 external', '1000*0 1'
+    #[arg(long, value_name = "FILE")]
+    pub events: Option<PathBuf>,
+    /// One such line
+    #[arg(long, value_name = "LINE")]
+    pub event: Vec<String>,
+    /// Stop where a step leaves IAR there, or where one sets MSR[WE]
+    #[arg(long, value_name = "SYMBOL|ADDRESS|wait")]
+    pub until: Option<String>,
+    /// Write what the run left
+    #[arg(short, long, value_name = "CAPTURE")]
+    pub out: Option<PathBuf>,
+    /// The ELF that the capture was made of, for symbols
+    #[arg(long, value_name = "ELF")]
+    pub elf: Option<PathBuf>,
+    /// Exit with 1 if it ends otherwise: 'halt CODE', 'used' (all steps), 'until', 'inside' (its memory), 'steps COUNT',
+    /// 'NAME=HEX', with commas between several
+    #[arg(long, value_name = "OUTCOME")]
+    pub expect: Option<String>,
+    /// A register changed before the run
+    #[arg(long, value_name = "NAME=HEX")]
+    pub set: Vec<String>,
+    /// The report for scripts
+    #[arg(long)]
+    pub json: bool,
+}
+
+#[derive(Args)]
+pub struct Trace {
+    /// The capture to play; it stays as it is
+    pub capture: PathBuf,
+    /// The first step that is shown
+    #[arg(long, value_name = "STEP", default_value = "0")]
+    pub from: String,
+    /// Steps that are shown
+    #[arg(long, value_name = "COUNT", default_value = "20")]
+    pub steps: String,
+    /// Events, as for run
+    #[arg(long, value_name = "FILE")]
+    pub events: Option<PathBuf>,
+    /// One line of events
+    #[arg(long, value_name = "LINE")]
+    pub event: Vec<String>,
+    /// The ELF that the capture was made of, for symbols
+    #[arg(long, value_name = "ELF")]
+    pub elf: Option<PathBuf>,
+    /// A register changed before the first step
+    #[arg(long, value_name = "NAME=HEX")]
+    pub set: Vec<String>,
+}
+
+#[derive(Args)]
+pub struct Diff {
+    /// The old capture
+    pub before: PathBuf,
+    /// The new one
+    pub after: PathBuf,
+}

@@ -1,0 +1,52 @@
+//! A capture: memory and state of a core, read from a file and written to one.
+
+use crate::files;
+use crate::library::{self, MOST, STATE, TRAILER};
+use crate::numbers;
+use crate::refusals;
+use crate::registers::{self, State};
+use std::path::Path;
+
+#[derive(Clone)]
+pub struct Capture {
+    pub state: State,
+    pub memory: Vec<u8>,
+}
+
+impl Capture {
+    pub fn read(path: &Path) -> Result<Capture, String> {
+        let file = files::read(path, MOST + TRAILER, "a capture")?;
+        let length = library::capture_check(&file)
+            .map_err(|refusal| format!("{}: {}", path.display(), refusals::of_capture(refusal, &file)))?;
+        let mut state = State::zero();
+        state.0.copy_from_slice(&file[length..length + STATE]);
+        Ok(Capture { state, memory: file[..length].to_vec() })
+    }
+
+    pub fn write(&self, path: &Path) -> Result<(), String> {
+        let file = library::capture_write(&self.state, &self.memory)
+            .map_err(|refusal| refusals::of_start(refusal, &self.state, self.memory.len()))?;
+        files::write(path, &file)
+    }
+
+    /// Sets registers as `NAME=HEX` says; what comes of it must be accepted by a run.
+    pub fn set(&mut self, settings: &[String]) -> Result<(), String> {
+        for setting in settings {
+            let (name, value) =
+                setting.split_once('=').ok_or(format!("--set {setting}: write NAME=HEX, as in DBCR=01000000"))?;
+            let place = registers::place_of(name)
+                .ok_or(format!("--set {setting}: there is no register {name}; there are {}", registers::names()))?;
+            let word = numbers::word(value).map_err(|wrong| format!("--set {setting}: {wrong}"))?;
+            self.state.put(place, word);
+        }
+        library::start_check(&self.state, &self.memory)
+            .map_err(|refusal| refusals::of_start(refusal, &self.state, self.memory.len()))
+    }
+
+    /// The four bytes at an address, if memory has them.
+    pub fn word_at(&self, address: u32) -> Option<u32> {
+        let at = address as usize;
+        let bytes = self.memory.get(at..at.checked_add(4)?)?;
+        Some(u32::from_be_bytes([bytes[0], bytes[1], bytes[2], bytes[3]]))
+    }
+}

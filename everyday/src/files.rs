@@ -1,0 +1,75 @@
+//! Files in and out: never more than is wanted, and a file that is written is whole or as it was.
+
+use std::fs::{self, File, OpenOptions};
+use std::io::{self, ErrorKind, Read, Write};
+use std::path::Path;
+
+/// No firmware for this core is longer, debug information and all.
+pub const MOST_FIRMWARE: usize = 64 << 20;
+
+/// All of a file, which must not be longer than `most`.
+pub fn read(path: &Path, most: usize, what: &str) -> Result<Vec<u8>, String> {
+    let shown = path.display();
+    if path.is_dir() {
+        return Err(format!("{shown} is a directory; name {what} in it"));
+    }
+    let file = File::open(path).map_err(|error| unreadable(path, &error, what))?;
+    let mut bytes = Vec::new();
+    file.take(most as u64 + 1).read_to_end(&mut bytes).map_err(|error| unreadable(path, &error, what))?;
+    if bytes.len() > most {
+        return Err(format!("{shown} is longer than {most} bytes, the most that {what} has; name {what}"));
+    }
+    Ok(bytes)
+}
+
+fn unreadable(path: &Path, error: &io::Error, what: &str) -> String {
+    let shown = path.display();
+    match error.kind() {
+        ErrorKind::NotFound => format!("there is no file {shown}; name {what} that is there"),
+        _ => format!("cannot read {shown}: {error}; name {what} that can be read"),
+    }
+}
+
+/// Whether both names lead to one file.
+pub fn same(one: &Path, other: &Path) -> bool {
+    matches!((fs::canonicalize(one), fs::canonicalize(other)), (Ok(one), Ok(other)) if one == other)
+}
+
+/// Whether a file can come to stand there, asked before long work.
+pub fn has_place(path: &Path) -> Result<(), String> {
+    let shown = path.display();
+    if path.is_dir() {
+        return Err(format!("{shown} is a directory; name a file in it"));
+    }
+    let folder = path.parent().filter(|folder| !folder.as_os_str().is_empty()).unwrap_or(Path::new("."));
+    if !folder.is_dir() {
+        return Err(format!(
+            "there is no folder {} to write {shown} in; name a file that can be written",
+            folder.display()
+        ));
+    }
+    Ok(())
+}
+
+/// A regular file is written beside its place and then put there, so that an old one stays until the new one is whole.
+pub fn write(path: &Path, bytes: &[u8]) -> Result<(), String> {
+    has_place(path)?;
+    let shown = path.display();
+    let written = match fs::metadata(path) {
+        Ok(old) if !old.is_file() => fs::write(path, bytes),
+        Ok(old) if old.permissions().readonly() => Err(ErrorKind::PermissionDenied.into()),
+        Ok(old) => fs::canonicalize(path).and_then(|path| replace(&path, bytes, Some(old.permissions()))),
+        Err(_) => replace(path, bytes, None),
+    };
+    written.map_err(|error| format!("cannot write {shown}: {error}; name a file that can be written"))
+}
+
+fn replace(path: &Path, bytes: &[u8], permissions: Option<fs::Permissions>) -> io::Result<()> {
+    let beside = path.with_file_name(format!(".ppe42-{}", std::process::id()));
+    let mut file = OpenOptions::new().write(true).create_new(true).open(&beside)?;
+    let written = file.write_all(bytes).and_then(|()| file.sync_all());
+    let kept = written.and_then(|()| permissions.map_or(Ok(()), |kept| fs::set_permissions(&beside, kept)));
+    kept.and_then(|()| fs::rename(&beside, path)).inspect_err(|_| {
+        let _ = fs::remove_file(&beside);
+    })
+}

@@ -1,0 +1,215 @@
+//! The proved library, through its C functions: the only place where the core is asked, and the only unsafe one.
+
+use crate::registers::{State, HALT};
+
+/// Bytes of a state, and of a capture after its memory.
+pub const STATE: usize = 144;
+pub const TRAILER: usize = 156;
+/// A memory's length is a multiple of this.
+pub const BLOCK: usize = 32;
+/// Most bytes of memory, steps of a budget, bytes of an event list.
+pub const MOST: usize = 1_048_576;
+
+extern "C" {
+    fn ppe42_run(
+        state: *mut u8,
+        state_len: usize,
+        memory: *mut u8,
+        memory_len: usize,
+        events: *const u8,
+        events_len: usize,
+        budget: u32,
+    ) -> u64;
+    fn ppe42_run_reach(
+        state: *mut u8,
+        state_len: usize,
+        memory: *mut u8,
+        memory_len: usize,
+        events: *const u8,
+        events_len: usize,
+        budget: u32,
+    ) -> u64;
+    fn ppe42_run_inside(
+        state: *mut u8,
+        state_len: usize,
+        memory: *mut u8,
+        memory_len: usize,
+        events: *const u8,
+        events_len: usize,
+        budget: u32,
+    ) -> u64;
+    fn ppe42_step(state: *mut u8, state_len: usize, memory: *mut u8, memory_len: usize, event: u8) -> u64;
+    fn ppe42_tell(state: *const u8, state_len: usize, memory: *const u8, memory_len: usize, event: u8) -> u64;
+    fn ppe42_access(state: *const u8, state_len: usize, memory: *const u8, memory_len: usize, event: u8) -> u64;
+    fn ppe42_capture_check(file: *const u8, len: usize) -> u64;
+    fn ppe42_capture_write(
+        state: *const u8,
+        state_len: usize,
+        memory: *const u8,
+        memory_len: usize,
+        out: *mut u8,
+        out_len: usize,
+    ) -> u64;
+    fn ppe42_legal(word: u32) -> u32;
+}
+
+/// Why input was refused, by its number.
+pub type Refusal = u32;
+
+/// What an accepted call answers: of a run the count of steps.
+#[derive(Clone, Copy, Debug, PartialEq)]
+pub struct Answer {
+    pub count: u32,
+    pub reached: bool,
+}
+
+/// What a step does (enum ppe42_told).
+#[derive(Clone, Copy, Debug, PartialEq)]
+pub enum Told {
+    Halted,
+    Executes,
+    Waits,
+    WatchdogActs,
+    Takes(Interrupt),
+    Faults(Fault),
+}
+
+#[derive(Clone, Copy, Debug, PartialEq)]
+pub enum Interrupt {
+    External,
+    Decrementer,
+    FixedInterval,
+    Watchdog,
+}
+
+#[derive(Clone, Copy, Debug, PartialEq)]
+pub enum Fault {
+    DataStorage,
+    InstructionStorage,
+    Alignment,
+    Illegal,
+    Trap,
+}
+
+/// The data access that a step tries.
+#[derive(Clone, Copy, Debug, PartialEq)]
+pub struct Access {
+    pub address: u32,
+    pub bytes: u32,
+    pub writes: bool,
+}
+
+fn accepted(answer: u64) -> Result<Answer, Refusal> {
+    match (answer >> 32) as u32 & 0x7FFF_FFFF {
+        0 => Ok(Answer { count: answer as u32, reached: answer >> 63 == 1 }),
+        refusal => Err(refusal),
+    }
+}
+
+// SAFETY, for each call: the library touches nothing but the buffers that it is lent, within their lengths.
+
+/// A run: up to `budget` steps, fewer if the core halts.
+pub fn run(state: &mut State, memory: &mut [u8], events: &[u8], budget: u32) -> Result<Answer, Refusal> {
+    let state = &mut state.0;
+    accepted(unsafe {
+        ppe42_run(
+            state.as_mut_ptr(),
+            state.len(),
+            memory.as_mut_ptr(),
+            memory.len(),
+            events.as_ptr(),
+            events.len(),
+            budget,
+        )
+    })
+}
+
+/// The same run; it tells whether it reached past its memory.
+pub fn run_reach(state: &mut State, memory: &mut [u8], events: &[u8], budget: u32) -> Result<Answer, Refusal> {
+    let state = &mut state.0;
+    accepted(unsafe {
+        ppe42_run_reach(
+            state.as_mut_ptr(),
+            state.len(),
+            memory.as_mut_ptr(),
+            memory.len(),
+            events.as_ptr(),
+            events.len(),
+            budget,
+        )
+    })
+}
+
+/// The same run, but it ends with the first step that reaches past its memory, and tells so.
+pub fn run_inside(state: &mut State, memory: &mut [u8], events: &[u8], budget: u32) -> Result<Answer, Refusal> {
+    let state = &mut state.0;
+    accepted(unsafe {
+        ppe42_run_inside(
+            state.as_mut_ptr(),
+            state.len(),
+            memory.as_mut_ptr(),
+            memory.len(),
+            events.as_ptr(),
+            events.len(),
+            budget,
+        )
+    })
+}
+
+pub fn step(state: &mut State, memory: &mut [u8], event: u8) -> Result<Answer, Refusal> {
+    let state = &mut state.0;
+    accepted(unsafe { ppe42_step(state.as_mut_ptr(), state.len(), memory.as_mut_ptr(), memory.len(), event) })
+}
+
+/// What the next step will do.
+pub fn tell(state: &State, memory: &[u8], event: u8) -> Result<Told, Refusal> {
+    let answer = unsafe { ppe42_tell(state.0.as_ptr(), state.0.len(), memory.as_ptr(), memory.len(), event) };
+    Ok(match accepted(answer)?.count {
+        1 => Told::Executes,
+        2 => Told::Waits,
+        3 => Told::WatchdogActs,
+        4 => Told::Takes(Interrupt::External),
+        5 => Told::Takes(Interrupt::Decrementer),
+        6 => Told::Takes(Interrupt::FixedInterval),
+        7 => Told::Takes(Interrupt::Watchdog),
+        8 => Told::Faults(Fault::DataStorage),
+        9 => Told::Faults(Fault::InstructionStorage),
+        10 => Told::Faults(Fault::Alignment),
+        11 => Told::Faults(Fault::Illegal),
+        12 => Told::Faults(Fault::Trap),
+        _ => Told::Halted,
+    })
+}
+
+/// The data access that the next step will try.
+pub fn access(state: &State, memory: &[u8], event: u8) -> Option<Access> {
+    let answer = unsafe { ppe42_access(state.0.as_ptr(), state.0.len(), memory.as_ptr(), memory.len(), event) };
+    let bytes = (answer >> 32) as u32 & 0x7FFF_FFFF;
+    (bytes != 0).then_some(Access { address: answer as u32, bytes, writes: answer >> 63 == 1 })
+}
+
+/// The length of a capture's memory.
+pub fn capture_check(file: &[u8]) -> Result<usize, Refusal> {
+    accepted(unsafe { ppe42_capture_check(file.as_ptr(), file.len()) }).map(|answer| answer.count as usize)
+}
+
+pub fn capture_write(state: &State, memory: &[u8]) -> Result<Vec<u8>, Refusal> {
+    let mut out = vec![0; memory.len() + TRAILER];
+    let answer = unsafe {
+        ppe42_capture_write(state.0.as_ptr(), state.0.len(), memory.as_ptr(), memory.len(), out.as_mut_ptr(), out.len())
+    };
+    accepted(answer).map(|_| out)
+}
+
+/// The refusal that a run from here gives: one of no steps is checked and changes nothing.
+pub fn start_check(state: &State, memory: &[u8]) -> Result<(), Refusal> {
+    run(&mut state.clone(), &mut memory.to_vec(), &[], 0).map(|_| ())
+}
+
+pub fn legal(word: u32) -> bool {
+    unsafe { ppe42_legal(word) == 1 }
+}
+
+pub fn halted(state: &State) -> bool {
+    state.get(HALT) != 0
+}

@@ -1,0 +1,20 @@
+//! ./ppe42: one command, and what is wrong in a sentence.
+
+use clap::Parser;
+use everyday::args::{Command, What};
+use everyday::{complain, diff, make, run, show, trace};
+use std::process::ExitCode;
+
+fn main() -> ExitCode {
+    let done = match Command::parse().what {
+        What::Make(args) => make::make(&args),
+        What::Show(args) => show::show(&args),
+        What::Run(args) => run::run(&args),
+        What::Trace(args) => trace::trace(&args),
+        What::Diff(args) => diff::diff(&args),
+    };
+    done.unwrap_or_else(|wrong| {
+        complain!("{wrong}");
+        ExitCode::from(2)
+    })
+}

@@ -1,0 +1,64 @@
+//! What the tests share: firmware from the stock compiler, folders of their own, and the program as a user runs it.
+#![allow(dead_code)]
+
+use assert_cmd::Command;
+use std::fs;
+use std::path::{Path, PathBuf};
+use std::process::Output;
+use std::sync::OnceLock;
+
+const FIRMWARE: [(&str, &[&str]); 3] = [
+    ("ledger", &["examples/ledger/start.s", "examples/ledger/ledger.c"]),
+    ("ticks", &["everyday/tests/firmware/ticks.s", "everyday/tests/firmware/ticks.c"]),
+    ("look", &["examples/ledger/start.s", "everyday/tests/firmware/look.c"]),
+];
+
+pub fn root() -> PathBuf {
+    Path::new(env!("CARGO_MANIFEST_DIR")).parent().expect("everyday/ stands in the repository").into()
+}
+
+/// The folder with ledger.elf, ticks.elf, look.elf and lacks.elf, compiled once.
+pub fn firmware() -> &'static Path {
+    static BUILT: OnceLock<PathBuf> = OnceLock::new();
+    BUILT.get_or_init(|| {
+        let folder = Path::new(env!("CARGO_TARGET_TMPDIR")).join(format!("firmware-{}", std::process::id()));
+        for (name, sources) in FIRMWARE {
+            assert!(build(&folder.join(name), sources).status.success(), "{name} does not compile");
+        }
+        build(&folder.join("lacks"), &["everyday/tests/firmware/lacks.s"]);
+        folder
+    })
+}
+
+fn build(name: &Path, sources: &[&str]) -> Output {
+    let mut command = std::process::Command::new(root().join("examples/ledger/build"));
+    command.arg("-o").arg(name).args(sources.iter().map(|source| root().join(source)));
+    command.output().expect("examples/ledger/build runs")
+}
+
+/// A folder for one test, with the firmware in it.
+pub fn folder(name: &str) -> PathBuf {
+    let folder = Path::new(env!("CARGO_TARGET_TMPDIR")).join(name);
+    let _ = fs::remove_dir_all(&folder);
+    fs::create_dir_all(&folder).expect("a folder for the test");
+    for name in ["ledger.elf", "ticks.elf", "look.elf", "lacks.elf"] {
+        fs::copy(firmware().join(name), folder.join(name)).expect("the firmware is there");
+    }
+    folder
+}
+
+/// ./ppe42 in a folder.
+pub fn ppe42(folder: &Path, arguments: &[&str]) -> Output {
+    let mut command = Command::cargo_bin("ppe42").expect("the program is built");
+    command.current_dir(folder).args(arguments).output().expect("the program runs")
+}
+
+pub fn text(bytes: &[u8]) -> String {
+    String::from_utf8(bytes.to_vec()).expect("the program prints text")
+}
+
+/// Ends the test unless the program was content.
+pub fn content(output: Output) -> Output {
+    assert!(output.status.success(), "{}{}", text(&output.stdout), text(&output.stderr));
+    output
+}

@@ -1,0 +1,89 @@
+//! Two hundred mutilated inputs: the program ends by itself, with a status of its own and a sentence where it is not content.
+
+mod common;
+
+use common::{content, folder, ppe42, text};
+use std::fs;
+use std::path::Path;
+
+/// Numbers that look random, the same in every run.
+struct Draw(u64);
+
+impl Draw {
+    fn below(&mut self, most: usize) -> usize {
+        self.0 ^= self.0 << 13;
+        self.0 ^= self.0 >> 7;
+        self.0 ^= self.0 << 17;
+        (self.0 % most as u64) as usize
+    }
+}
+
+/// Bytes changed, cut off, put in, or doubled, mostly at the beginning and the end, where forms are told apart.
+fn mutilate(bytes: &[u8], draw: &mut Draw) -> Vec<u8> {
+    let mut bytes = bytes.to_vec();
+    for _ in 0..1 + draw.below(6) {
+        let length = bytes.len().max(1);
+        let at = match draw.below(3) {
+            0 => draw.below(length.min(120)),
+            1 => length - 1 - draw.below(length.min(200)),
+            _ => draw.below(length),
+        };
+        let value = [0, 1, 0x7F, 0x80, 0xFF, draw.below(256) as u8][draw.below(6)];
+        match draw.below(8) {
+            0 => bytes.truncate(at),
+            1 => bytes.insert(at.min(bytes.len()), value),
+            2 => bytes.extend_from_within(at.min(bytes.len())..),
+            _ if at < bytes.len() => bytes[at] = value,
+            _ => {}
+        }
+    }
+    bytes
+}
+
+/// Whether the program was content.
+fn plays(folder: &Path, arguments: &[&str]) -> bool {
+    let output = ppe42(folder, arguments);
+    let said = text(&output.stderr);
+    match output.status.code() {
+        Some(0) => {}
+        Some(1 | 2) => assert!(said.contains("ppe42: ") || arguments[0] == "diff", "{arguments:?}: {said}"),
+        other => panic!("{arguments:?} ended with {other:?}: {said}"),
+    }
+    let is_2 = output.status.code() == Some(2);
+    assert!(!(is_2 && folder.join("out.capture").exists()), "{arguments:?} wrote a file all the same");
+    let _ = fs::remove_file(folder.join("out.capture"));
+    output.status.success()
+}
+
+#[test]
+fn mutilated_inputs() {
+    let folder = folder("mutilated");
+    let make = ["make", "ledger.elf", "-o", "ledger.capture", "--memory", "16384", "--set", "DBCR=01000000"];
+    content(ppe42(&folder, &make));
+    let elf = fs::read(folder.join("ledger.elf")).unwrap();
+    let capture = fs::read(folder.join("ledger.capture")).unwrap();
+    let events = b"at 100 1\nevery 50 timer0 # ticks\nfrom 200 to 260 external+timer3\n1000*0 5 3*2\n";
+    let mut draw = Draw(0x9E37_79B9_7F4A_7C15);
+    let mut taken = 0;
+    for _ in 0..50 {
+        fs::write(folder.join("bad.elf"), mutilate(&elf, &mut draw)).unwrap();
+        fs::write(folder.join("bad.capture"), mutilate(&capture, &mut draw)).unwrap();
+        fs::write(folder.join("bad.txt"), mutilate(events, &mut draw)).unwrap();
+        let fourth: &[&str] = match draw.below(3) {
+            0 => &["run", "bad.capture", "--out", "out.capture", "--steps", "100000"],
+            1 => &["show", "bad.capture", "--memory", "0..20"],
+            _ => &["diff", "ledger.capture", "bad.capture"],
+        };
+        let plays = [
+            plays(&folder, &["make", "bad.elf", "-o", "out.capture", "--memory", "16384", "--anyway"]),
+            plays(&folder, &["trace", "ledger.capture", "--elf", "bad.elf", "--steps", "50"]),
+            plays(
+                &folder,
+                &["run", "ledger.capture", "--events", "bad.txt", "--out", "out.capture", "--steps", "2000"],
+            ),
+            plays(&folder, fourth),
+        ];
+        taken += plays.iter().filter(|&&content| content).count();
+    }
+    assert!((20..180).contains(&taken), "{taken} of 200 were taken: they are not mutilated enough, or too much");
+}

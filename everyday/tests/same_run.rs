@@ -1,0 +1,174 @@
+//! `run` against the plain library: the same state, memory, count and reach as calls of one step each.
+
+mod common;
+
+use common::{content, folder, ppe42, text};
+use everyday::capture::Capture;
+use everyday::library::{self, Told};
+use everyday::registers::{State, IAR, MSR, WE};
+use serde_json::Value;
+use std::fs;
+use std::path::Path;
+
+/// loop.bin counts in memory and loads from r5; climb.bin loads at r5, four bytes further in each turn. A handler at 060 steps
+/// over the load, one at 0A0 returns.
+fn loops(folder: &Path) {
+    let mut memory = vec![0; 0x214];
+    let mut put = |at: usize, words: &[u32]| {
+        for (k, word) in words.iter().enumerate() {
+            memory[at + 4 * k..at + 4 * k + 4].copy_from_slice(&word.to_be_bytes());
+        }
+    };
+    put(0, &[0x38630001, 0x90600100, 0x80850000, 0x4BFFFFF4]); // addi r3,r3,1; stw r3,256(0); lwz r4,0(r5); b 0
+    put(0x060, &[0x7CDA02A6, 0x38C60004, 0x7CDA03A6, 0x4C000064]); // mfspr r6,26; addi r6,r6,4; mtspr 26,r6; rfi
+    put(0x0A0, &[0x39080001, 0x4C000064]); // addi r8,r8,1; rfi
+    put(0x200, &[0x38A50004, 0x80850000, 0x60000000, 0x60000000, 0x4BFFFFF0]); // addi r5,r5,4; lwz r4,0(r5); nop; nop; b 200
+    fs::write(folder.join("climb.bin"), &memory).unwrap();
+    fs::write(folder.join("loop.bin"), &memory[..0x200]).unwrap();
+}
+
+/// Steps one by one with these event bytes; the count, and the first step that faulted for want of memory.
+fn plainly(
+    capture: &mut Capture,
+    event: impl Fn(u64) -> u8,
+    steps: u64,
+    until: impl Fn(&State, &State) -> bool,
+) -> (u64, Option<u64>) {
+    let mut reached = None;
+    for step in 0..steps {
+        let before = capture.state.clone();
+        let told = library::tell(&capture.state, &capture.memory, event(step)).unwrap();
+        let outside = [library::Fault::DataStorage, library::Fault::InstructionStorage].map(Told::Faults);
+        if outside.contains(&told) {
+            reached = reached.or(Some(step));
+        }
+        if library::step(&mut capture.state, &mut capture.memory, event(step)).unwrap().count == 0 {
+            return (step, reached);
+        }
+        if until(&before, &capture.state) {
+            return (step + 1, reached);
+        }
+    }
+    (steps, reached)
+}
+
+/// Both, and their comparison.
+fn same(
+    name: &str,
+    make: &[&str],
+    run: &[&str],
+    event: impl Fn(u64) -> u8,
+    steps: u64,
+    until: impl Fn(&State, &State) -> bool,
+) {
+    let folder = folder(name);
+    loops(&folder);
+    content(ppe42(&folder, make));
+    let before = folder.join("start.capture");
+    let count = steps.to_string();
+    let mut arguments = vec!["run", "start.capture", "--json", "--out", "end.capture", "--steps", &count];
+    arguments.extend(run);
+    let report: Value = serde_json::from_str(&text(&content(ppe42(&folder, &arguments)).stdout)).unwrap();
+    let mut plain = Capture::read(&before).unwrap();
+    let (taken, reached) = plainly(&mut plain, event, steps, until);
+    let after = Capture::read(&folder.join("end.capture")).unwrap();
+    assert!(after.state == plain.state && after.memory == plain.memory, "{name}: not the same state and memory");
+    assert_eq!(report["steps"].as_u64(), Some(taken), "{name}");
+    assert_eq!(report["reached"].as_u64(), reached, "{name}");
+    assert!(taken > 0, "{name}: nothing was played");
+}
+
+fn never(_: &State, _: &State) -> bool {
+    false
+}
+
+const LOOP: &[&str] = &["make", "loop.bin", "-o", "start.capture", "--memory", "512", "--set", "MSR=00018000"];
+
+fn looping_with<'a>(settings: &[&'a str]) -> Vec<&'a str> {
+    LOOP.iter().copied().chain(settings.iter().copied()).collect()
+}
+
+#[test]
+fn a_long_run_with_events() {
+    let event = |step: u64| match step {
+        1_048_575..=1_048_577 => 3,
+        2_000_000 => 5,
+        2_000_001..=2_000_010 => 4,
+        _ => u8::from(step > 0 && step % 1000 == 0),
+    };
+    let lines = [
+        "--event",
+        "every 1000 external",
+        "--event",
+        "from 2000000 to 2000010 timer0",
+        "--event",
+        "1048575*0 3*external+decrementer",
+    ];
+    let make = looping_with(&["--set", "r5=104", "--set", "TCR=00800000"]);
+    same("long", &make, &lines, event, 3_000_001, never);
+}
+
+#[test]
+fn a_run_that_reaches_and_goes_on() {
+    same("reach", &looping_with(&["--set", "r5=1000"]), &[], |_| 0, 2_500_000, never);
+}
+
+/// The loads go up through a megabyte and leave it in the second run of the library.
+#[test]
+fn a_run_that_reaches_late() {
+    let make = [
+        "make", "climb.bin", "-o", "start.capture", "--memory", "1048576", "--set", "MSR=00010000", "--set", "IAR=200",
+    ];
+    same("late_reach", &make, &[], |_| 0, 2_500_000, never);
+}
+
+#[test]
+fn a_fault_and_its_step() {
+    let make = ["make", "look.elf", "-o", "start.capture", "--memory", "16384", "--set", "DBCR=01000000"];
+    same("fault", &make, &[], |_| 0, 1_000_000_000, never);
+}
+
+#[test]
+fn firmware_with_ticks() {
+    let make = ["make", "ticks.elf", "-o", "start.capture", "--memory", "16384", "--set", "DBCR=01000000"];
+    same(
+        "ticks_run",
+        &make,
+        &["--event", "every 7 timer0"],
+        |step| 4 * u8::from(step > 0 && step % 7 == 0),
+        100_000,
+        never,
+    );
+}
+
+#[test]
+fn until_an_address() {
+    let event = |step: u64| u8::from(step == 5000);
+    same(
+        "until",
+        &looping_with(&["--set", "r5=104"]),
+        &["--until", "A0", "--event", "at 5000 1"],
+        event,
+        100_000,
+        |_, after| after.get(IAR) == 0xA0,
+    );
+}
+
+#[test]
+fn until_the_wait() {
+    let make = ["make", "ticks.elf", "-o", "start.capture", "--memory", "16384", "--set", "DBCR=01000000"];
+    let waits = |before: &State, after: &State| before.get(MSR) & WE == 0 && after.get(MSR) & WE != 0;
+    same("wait", &make, &["--until", "wait"], |_| 0, 100_000, waits);
+}
+
+/// The step that halts is told though it comes long after the last copy that it is played again from.
+#[test]
+fn a_halt_after_many_runs() {
+    let folder = folder("late");
+    fs::write(folder.join("late.bin"), [0x42, 0, 0, 0, 0x7F, 0xE0, 0, 8]).unwrap(); // bdnz 0; trap
+    let settings = ["--set", "CTR=0225FFF0", "--set", "DBCR=01000000"];
+    content(ppe42(&folder, &[&["make", "late.bin", "-o", "late.capture", "--memory", "32"], &settings[..]].concat()));
+    let output =
+        content(ppe42(&folder, &["run", "late.capture", "--steps", "1G", "--expect", "halt 3, steps 36044785"]));
+    assert!(text(&output.stdout).contains("trap by the word at 00000004, step 36044784; halted with 3"));
+}

@@ -1,0 +1,79 @@
+//! Stored transcripts: each `$` line is run in a folder with the firmware, and must print what stands below it. What goes to
+//! standard error follows what goes to standard output, then the exit status if it is not 0. Lines of `time` are left out.
+
+mod common;
+
+use common::{folder, ppe42, text};
+use std::fs;
+use std::path::Path;
+
+fn transcript(name: &str) {
+    let path = Path::new(env!("CARGO_MANIFEST_DIR")).join("tests/transcripts").join(name).with_extension("txt");
+    let stored = fs::read_to_string(&path).expect("the transcript is there");
+    let folder = folder(name);
+    let mut found = String::new();
+    for line in stored.lines() {
+        if let Some(words) = line.strip_prefix("$ ./ppe42 ") {
+            let arguments = split(words);
+            let output = ppe42(&folder, &arguments.iter().map(String::as_str).collect::<Vec<_>>());
+            found += &format!("{line}\n{}{}", timeless(&text(&output.stdout)), text(&output.stderr));
+            let code = output.status.code().expect("it ends by itself");
+            if code != 0 {
+                found += &format!("exit {code}\n");
+            }
+        } else if let Some(command) = line.strip_prefix("$ ") {
+            assert!(std::process::Command::new("sh")
+                .arg("-c")
+                .arg(command)
+                .current_dir(&folder)
+                .status()
+                .unwrap()
+                .success());
+            found += &format!("{line}\n");
+        } else if line.starts_with('#') {
+            found += &format!("{line}\n");
+        }
+    }
+    let kept = Path::new(env!("CARGO_TARGET_TMPDIR")).join(name).with_extension("found");
+    fs::write(&kept, &found).expect("the folder can be written");
+    assert!(found == stored, "{} is not what came; that is in {}", path.display(), kept.display());
+}
+
+fn timeless(printed: &str) -> String {
+    let kept = printed.lines().filter(|line| !line.starts_with("time     ") && !line.contains("\"seconds\": "));
+    kept.map(|line| format!("{line}\n")).collect()
+}
+
+/// Words between blanks; '..' keeps blanks.
+fn split(words: &str) -> Vec<String> {
+    let mut split = vec![String::new()];
+    let mut quoted = false;
+    for letter in words.chars() {
+        match letter {
+            '\'' => quoted = !quoted,
+            ' ' if !quoted => split.push(String::new()),
+            _ => split.last_mut().expect("never empty").push(letter),
+        }
+    }
+    split
+}
+
+#[test]
+fn ledger() {
+    transcript("ledger");
+}
+
+#[test]
+fn ticks() {
+    transcript("ticks");
+}
+
+#[test]
+fn look() {
+    transcript("look");
+}
+
+#[test]
+fn wrong_input() {
+    transcript("wrong_input");
+}
