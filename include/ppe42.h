@@ -101,8 +101,8 @@ enum ppe42_refused {
 };
 
 /* The answer of a run, a step, a capture function or ppe42_tell is the refusal times 2^32 plus a count, which is 0 where there
- * is a refusal; ppe42_run_reach and ppe42_run_inside may add 2^63. ppe42_access, ppe42_legal and ppe42_rewrite have answers of their
- * own. */
+ * is a refusal; ppe42_run_reach and ppe42_run_inside may add 2^63. ppe42_access, ppe42_legal and ppe42_rewrite have answers of
+ * their own. */
 static inline uint32_t ppe42_refusal(uint64_t answer) { return (uint32_t)(answer >> 32) & 0x7FFFFFFF; }
 static inline uint32_t ppe42_count(uint64_t answer) { return (uint32_t)answer; }
 static inline int ppe42_reached(uint64_t answer) { return (int)(answer >> 63); }
@@ -163,8 +163,8 @@ enum ppe42_told {
 uint64_t ppe42_tell(const uint8_t *state, size_t state_len, const uint8_t *memory, size_t memory_len, uint8_t event);
 
 /* The data access that the step would try: its first address, plus 2^32 times its length in bytes (1, 2 or 4; for dcbz the
- * block's first address and 32), plus 2^63 if it writes. One that faults is told too. 0: none is tried, be it that the core is
- * halted, or ppe42_step refuses. */
+ * block's first address and 32), plus 2^63 if it writes. One that faults is told too. 0: none is tried; so too for a halted
+ * core, and where ppe42_step refuses. */
 uint64_t ppe42_access(const uint8_t *state, size_t state_len, const uint8_t *memory, size_t memory_len, uint8_t event);
 
 /* Whether these bytes are a capture that a run accepts: memory, state, then the words 156, the memory's length and 1. The

@@ -61,7 +61,7 @@ pub struct Show {
 
 #[derive(Args)]
 pub struct Run {
-    /// The capture to play; it stays as it is
+    /// The capture to play; it stays as it is unless --out names it
     pub capture: PathBuf,
     /// Steps at most
     #[arg(long, value_name = "COUNT", default_value = "1M")]

@@ -121,17 +121,25 @@ impl Events {
         Ok(())
     }
 
+    /// Spans of one byte that meet are joined, so that at most 63 have a step in common; then they are sorted.
     fn settle(&mut self) {
-        self.spans.sort_by_key(|span| span.from);
+        self.spans.sort_by_key(|span| (span.byte, span.from));
+        let mut joined: Vec<Span> = Vec::new();
+        for span in self.spans.drain(..).filter(|span| span.byte != 0) {
+            match joined.last_mut() {
+                Some(last) if last.byte == span.byte && span.from <= last.to.saturating_add(1) => {
+                    last.to = last.to.max(span.to)
+                }
+                _ => joined.push(span),
+            }
+        }
+        joined.sort_by_key(|span| span.from);
+        self.spans = joined;
         let mut most = 0;
-        self.over = self
-            .spans
-            .iter()
-            .map(|span| {
-                most = most.max(span.to);
-                most
-            })
-            .collect();
+        for span in &self.spans {
+            most = most.max(span.to);
+            self.over.push(most);
+        }
     }
 
     /// The bytes of `steps` steps from `start` on, without zeros at the end.
@@ -143,7 +151,7 @@ impl Events {
         let last = start.saturating_add(u64::from(steps) - 1);
         let first = self.over.partition_point(|&to| to < start);
         for span in self.spans[first..].iter().take_while(|span| span.from <= last) {
-            if span.byte != 0 && span.to >= start {
+            if span.to >= start {
                 for at in span.from.max(start)..=span.to.min(last) {
                     put(list, (at - start) as usize, span.byte);
                 }

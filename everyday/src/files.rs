@@ -2,10 +2,13 @@
 
 use std::fs::{self, File, OpenOptions};
 use std::io::{self, ErrorKind, Read, Write};
-use std::path::Path;
+use std::path::{Path, PathBuf};
 
 /// No firmware for this core is longer, debug information and all.
 pub const MOST_FIRMWARE: usize = 64 << 20;
+
+/// Names that are tried for a file that is being written.
+const MOST_TURNS: u32 = 100;
 
 /// All of a file, which must not be longer than `most`.
 pub fn read(path: &Path, most: usize, what: &str) -> Result<Vec<u8>, String> {
@@ -30,46 +33,57 @@ fn unreadable(path: &Path, error: &io::Error, what: &str) -> String {
     }
 }
 
+fn unwritable(path: &Path, error: &io::Error) -> String {
+    format!("cannot write {}: {error}; name a file that can be written", path.display())
+}
+
 /// Whether both names lead to one file.
 pub fn same(one: &Path, other: &Path) -> bool {
     matches!((fs::canonicalize(one), fs::canonicalize(other)), (Ok(one), Ok(other)) if one == other)
 }
 
-/// Whether a file can come to stand there, asked before long work.
+/// Whether a file can be written there, tried before long work.
 pub fn has_place(path: &Path) -> Result<(), String> {
     let shown = path.display();
     if path.is_dir() {
         return Err(format!("{shown} is a directory; name a file in it"));
     }
-    let folder = path.parent().filter(|folder| !folder.as_os_str().is_empty()).unwrap_or(Path::new("."));
-    if !folder.is_dir() {
-        return Err(format!(
-            "there is no folder {} to write {shown} in; name a file that can be written",
-            folder.display()
-        ));
-    }
-    Ok(())
+    let tried = match fs::metadata(path) {
+        Ok(old) if old.permissions().readonly() => Err(ErrorKind::PermissionDenied.into()),
+        Ok(old) if !old.is_file() => Ok(()),
+        _ => beside(path).and_then(|(name, _)| fs::remove_file(name)),
+    };
+    tried.map_err(|error| unwritable(path, &error))
 }
 
 /// A regular file is written beside its place and then put there, so that an old one stays until the new one is whole.
 pub fn write(path: &Path, bytes: &[u8]) -> Result<(), String> {
     has_place(path)?;
-    let shown = path.display();
     let written = match fs::metadata(path) {
         Ok(old) if !old.is_file() => fs::write(path, bytes),
-        Ok(old) if old.permissions().readonly() => Err(ErrorKind::PermissionDenied.into()),
         Ok(old) => fs::canonicalize(path).and_then(|path| replace(&path, bytes, Some(old.permissions()))),
         Err(_) => replace(path, bytes, None),
     };
-    written.map_err(|error| format!("cannot write {shown}: {error}; name a file that can be written"))
+    written.map_err(|error| unwritable(path, &error))
 }
 
 fn replace(path: &Path, bytes: &[u8], permissions: Option<fs::Permissions>) -> io::Result<()> {
-    let beside = path.with_file_name(format!(".ppe42-{}", std::process::id()));
-    let mut file = OpenOptions::new().write(true).create_new(true).open(&beside)?;
+    let (name, mut file) = beside(path)?;
     let written = file.write_all(bytes).and_then(|()| file.sync_all());
-    let kept = written.and_then(|()| permissions.map_or(Ok(()), |kept| fs::set_permissions(&beside, kept)));
-    kept.and_then(|()| fs::rename(&beside, path)).inspect_err(|_| {
-        let _ = fs::remove_file(&beside);
+    let kept = written.and_then(|()| permissions.map_or(Ok(()), |kept| fs::set_permissions(&name, kept)));
+    kept.and_then(|()| fs::rename(&name, path)).inspect_err(|_| {
+        let _ = fs::remove_file(&name);
     })
+}
+
+/// A new file in the same folder, under a name that nothing has.
+fn beside(path: &Path) -> io::Result<(PathBuf, File)> {
+    let mut turn = 0;
+    loop {
+        let name = path.with_file_name(format!(".ppe42-{}-{turn}", std::process::id()));
+        match OpenOptions::new().write(true).create_new(true).open(&name) {
+            Err(error) if error.kind() == ErrorKind::AlreadyExists && turn < MOST_TURNS => turn += 1,
+            opened => return opened.map(|file| (name, file)),
+        }
+    }
 }

@@ -40,7 +40,10 @@ fn events_text(path: &Path) -> Result<String, String> {
 pub fn until(text: &Option<String>, symbols: &Symbols) -> Result<Until, String> {
     let Some(text) = text else { return Ok(Until::Nothing) };
     if text == "wait" {
-        return Ok(Until::Wait);
+        return match symbols.addresses_of(text).first() {
+            Some(address) => Err(format!("--until wait: the ELF has a symbol of that name; write {address:08X} for it, or leave out --elf for the wait state")),
+            None => Ok(Until::Wait),
+        };
     }
     let address = match symbols.addresses_of(text)[..] {
         [address] => address,

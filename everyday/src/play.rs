@@ -6,6 +6,7 @@ use crate::library::{self, Refusal, MOST};
 use crate::progress::Progress;
 use crate::registers::{IAR, MSR, WE};
 use crate::step::{self, Step};
+use std::time::{Duration, Instant};
 
 /// What ends a run, besides a halt and the budget.
 #[derive(Clone, Copy, PartialEq)]
@@ -33,6 +34,8 @@ pub struct Played {
     pub reached: Option<u64>,
     /// The step that halted the core.
     pub last: Option<Step>,
+    /// How long the steps took, without the search for one of them.
+    pub time: Duration,
 }
 
 /// Runs of the library between two copies of memory and state, from which a step is found again; of the largest memory one
@@ -50,13 +53,24 @@ struct Player<'a> {
     reached: Option<u64>,
     kept: Capture,
     kept_at: u64,
+    searched: Duration,
 }
 
 pub fn play(capture: &mut Capture, events: &Events, budget: u64, until: Until) -> Result<Played, Refusal> {
     let was_halted = library::halted(&capture.state);
     let kept = capture.clone();
-    let mut player = Player { capture, events, list: Vec::new(), steps: 0, reached: None, kept, kept_at: 0 };
+    let mut player = Player {
+        capture,
+        events,
+        list: Vec::new(),
+        steps: 0,
+        reached: None,
+        kept,
+        kept_at: 0,
+        searched: Duration::ZERO,
+    };
     let mut progress = Progress::new(budget);
+    let started = Instant::now();
     let mut end = if was_halted { End::WasHalted } else { End::Used };
     while end == End::Used && player.steps < budget {
         end = match until {
@@ -66,8 +80,9 @@ pub fn play(capture: &mut Capture, events: &Events, budget: u64, until: Until) -
         progress.at(player.steps);
     }
     progress.end();
+    let time = started.elapsed() - player.searched;
     let last = if end == End::Halted { Some(player.last()?) } else { None };
-    Ok(Played { steps: player.steps, end, reached: player.reached, last })
+    Ok(Played { steps: player.steps, end, reached: player.reached, last, time })
 }
 
 impl Player<'_> {
@@ -83,7 +98,9 @@ impl Player<'_> {
         let answer = run(&mut self.capture.state, &mut self.capture.memory, &self.list, most)?;
         self.steps += u64::from(answer.count);
         if answer.reached {
+            let began = Instant::now();
             self.reached = Some(self.first_reach()?);
+            self.searched += began.elapsed();
         }
         Ok(if library::halted(&self.capture.state) { End::Halted } else { End::Used })
     }

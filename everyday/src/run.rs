@@ -14,7 +14,6 @@ use crate::symbols::Symbols;
 use crate::{complain, say};
 use serde_json::json;
 use std::process::ExitCode;
-use std::time::Instant;
 
 /// Lines of memory that are shown.
 const SHOWN: usize = 32;
@@ -32,11 +31,9 @@ pub fn run(args: &Run) -> Result<ExitCode, String> {
     }
     args.out.as_deref().map_or(Ok(()), files::has_place)?;
     let before = after.clone();
-    let started = Instant::now();
     let played = play::play(&mut after, &events, budget, until)
         .map_err(|refusal| refusals::of_start(refusal, &before.state, before.memory.len()))?;
-    let seconds = started.elapsed().as_secs_f64();
-    let report = Report { before: &before, after: &after, played: &played, symbols: &symbols, seconds };
+    let report = Report { before: &before, after: &after, played: &played, symbols: &symbols };
     let met = expected.as_ref().map(|expected| expected.met(&played, &after));
     if args.json {
         report.json(expected.as_ref().zip(met));
@@ -60,7 +57,6 @@ struct Report<'a> {
     after: &'a Capture,
     played: &'a Played,
     symbols: &'a Symbols,
-    seconds: f64,
 }
 
 impl Report<'_> {
@@ -111,8 +107,9 @@ impl Report<'_> {
     }
 
     fn time(&self) -> String {
-        let rate = self.played.steps as f64 / self.seconds.max(1e-9) / 1e6;
-        format!("{:.3} s, {rate:.1} million steps a second", self.seconds)
+        let seconds = self.played.time.as_secs_f64();
+        let rate = self.played.steps as f64 / seconds.max(1e-9) / 1e6;
+        format!("{seconds:.3} s, {rate:.1} million steps a second")
     }
 
     fn json(&self, expected: Option<(&Expected, bool)>) {
@@ -126,7 +123,7 @@ impl Report<'_> {
             "why": self.why(),
             "last": last.map(|step| step.name()),
             "reached": self.played.reached,
-            "seconds": self.seconds,
+            "seconds": self.played.time.as_secs_f64(),
             "registers": registers,
             "memory": memory,
             "expected": expected.map(|(expected, met)| json!({ "text": expected.text, "met": met })),

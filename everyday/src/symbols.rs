@@ -16,12 +16,12 @@ pub struct Symbol {
     pub absolute: bool,
 }
 
-/// Letters of a name that are kept.
-const KEPT: usize = 200;
+/// Bytes of a name that are shown.
+const LONGEST: usize = 200;
 
 /// A symbol's name as it can be shown in a line.
 pub fn readable(name: &[u8]) -> String {
-    let name = String::from_utf8_lossy(&name[..name.len().min(KEPT)]);
+    let name = String::from_utf8_lossy(&name[..name.len().min(LONGEST)]);
     name.chars().map(|letter| if letter.is_control() { '?' } else { letter }).collect()
 }
 
@@ -115,6 +115,6 @@ mod tests {
     #[test]
     fn names_keep_to_their_line() {
         assert_eq!(readable(b"a\x1B[31m\nb"), "a?[31m?b");
-        assert_eq!(readable(&[b'x'; 100_000]).len(), KEPT);
+        assert_eq!(readable(&[b'x'; 100_000]).len(), LONGEST);
     }
 }

@@ -1,5 +1,5 @@
-// The step that marks a reach past its memory in the halt code's place: a loop that ends at a halt ends there too, and no other
-// step pays for the question.
+// The step that marks a reach past its memory in the halt code's place: a loop that ends at a halt ends there too, and of the
+// other steps only dcbz pays for the question.
 ghost use mathlib.Core.Path.{_≡_};
 ghost use Rattle.insn.specs.Read.{decodeOf};
 ghost use Rattle.machine.specs.After.{markFor, markedIf, unmarked, markedOf};

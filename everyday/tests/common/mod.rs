@@ -21,7 +21,7 @@ pub fn root() -> PathBuf {
 pub fn firmware() -> &'static Path {
     static BUILT: OnceLock<PathBuf> = OnceLock::new();
     BUILT.get_or_init(|| {
-        let folder = Path::new(env!("CARGO_TARGET_TMPDIR")).join(format!("firmware-{}", std::process::id()));
+        let folder = Path::new(env!("CARGO_TARGET_TMPDIR")).join(concat!("firmware-", env!("CARGO_CRATE_NAME")));
         for (name, sources) in FIRMWARE {
             assert!(build(&folder.join(name), sources).status.success(), "{name} does not compile");
         }

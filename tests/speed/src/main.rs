@@ -20,7 +20,10 @@ const SIZE: usize = 1 << 12;
 fn main() {
     let arguments: Vec<String> = std::env::args().skip(1).collect();
     if let [program, steps, runs] = &arguments[..] {
-        return everyday::compare(program, steps.parse().expect("steps"), runs.parse().expect("runs"));
+        return match (steps.parse(), runs.parse()) {
+            (Ok(steps), Ok(runs)) => everyday::compare(program, steps, runs),
+            _ => println!("steps and runs are plain numbers, as in 1000000000 3"),
+        };
     }
     let runs = arguments.first().and_then(|word| word.parse().ok()).unwrap_or(RUNS);
     println!("the best of {runs} runs; a ratio is one of speeds: 2.00 is twice as fast as second");
