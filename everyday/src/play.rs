@@ -38,8 +38,8 @@ pub struct Played {
     pub time: Duration,
 }
 
-/// Runs of the library between two copies of memory and state, from which a step is found again; of the largest memory one
-/// copy costs as much as some 10,000 steps.
+/// Runs of the library between two copies of memory and state, from which a step is found again: few enough to play again in
+/// a fraction of a second, and enough for the copies not to count.
 const KEPT: u64 = 16;
 
 /// Steps whose event bytes are asked for at once, where each step is looked at.
