@@ -162,7 +162,7 @@ enum ppe42_told {
 };
 uint64_t ppe42_tell(const uint8_t *state, size_t state_len, const uint8_t *memory, size_t memory_len, uint8_t event);
 
-/* The data access that the step would try: its first address, plus 2^32 times its length in bytes (1, 2 or 4; for dcbz the
+/* The data access that the step would try: its first address, plus 2^32 times its length in bytes (1, 2, 4 or 8; for dcbz the
  * block's first address and 32), plus 2^63 if it writes. One that faults is told too. 0: none is tried; so too for a halted
  * core, and where ppe42_step refuses. */
 uint64_t ppe42_access(const uint8_t *state, size_t state_len, const uint8_t *memory, size_t memory_len, uint8_t event);

@@ -38,7 +38,7 @@ pub fn words(bytes: &[u8]) -> String {
     bytes.chunks(4).map(hex).collect::<Vec<_>>().join(" ")
 }
 
-pub fn hex(bytes: &[u8]) -> String {
+fn hex(bytes: &[u8]) -> String {
     bytes.iter().map(|byte| format!("{byte:02X}")).collect()
 }
 

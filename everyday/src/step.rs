@@ -137,6 +137,7 @@ fn width(bytes: u32) -> &'static str {
     match bytes {
         1 => ", a byte,",
         2 => ", a halfword,",
+        8 => ", a doubleword,",
         _ => "",
     }
 }

@@ -2,7 +2,7 @@
 
 use crate::args::Trace;
 use crate::capture::Capture;
-use crate::changes::hex;
+use crate::changes::words;
 use crate::events;
 use crate::library::{self, Told};
 use crate::load;
@@ -78,7 +78,7 @@ fn did(step: &Step, symbols: &Symbols) -> String {
 fn access(step: &Step, symbols: &Symbols) -> Option<String> {
     let access = step.access.filter(|_| step.told == Told::Executes)?;
     let place = symbols.place(access.address);
-    let (old, new) = (hex(&step.bytes.0), hex(&step.bytes.1));
+    let (old, new) = (words(&step.bytes.0), words(&step.bytes.1));
     Some(if access.writes { format!("store [{place}] {old} -> {new}") } else { format!("load [{place}] {new}") })
 }
 

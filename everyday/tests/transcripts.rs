@@ -74,6 +74,11 @@ fn look() {
 }
 
 #[test]
+fn context() {
+    transcript("context");
+}
+
+#[test]
 fn wrong_input() {
     transcript("wrong_input");
 }

@@ -11,8 +11,8 @@
 
 #include "ppe42.h"
 
-// A million words: 83 times 320 drawn, each with its 32 flips, and the rest of any kind.
-enum { DRAWN = 320, ANY = 123520, SHOWN = 20 };
+// A million words: 87 times 320 drawn, each with its 32 flips, and the rest of any kind.
+enum { DRAWN = 320, ANY = 81280, SHOWN = 20 };
 
 #define BITS(from, to) (UINT32_MAX >> (from) & UINT32_MAX << (31 - (to)))
 #define BIT(at) BITS(at, at)
@@ -24,8 +24,8 @@ static _Noreturn void stop(const char *why) {
 
 static uint32_t field(uint32_t word, int from, int to) { return (word & BITS(from, to)) >> (31 - to); }
 
-// Which of the three places of a register hold one, and what the ends of a mnemonic say.
-enum { D = 1, A = 2, B = 4 };
+// Which of the three places of a register hold one, whether D begins a pair, and what the ends of a mnemonic say.
+enum { D = 1, A = 2, B = 4, PAIR = 8 };
 enum ends { PLAIN, RC, OE_RC, LK, LK_AA };
 
 // What a form restricts beyond registers, CR fields and reserved bits.
@@ -41,6 +41,9 @@ static const struct form
     IMMEDIATE = {0, D | A, 0, BITS(16, 31), PLAIN, NONE},
     LOADING = {0, D | A, 0, BITS(16, 31), PLAIN, LOAD_UPDATE},
     STORING = {0, D | A, 0, BITS(16, 31), PLAIN, STORE_UPDATE},
+    PAIRED = {0, D | A | PAIR, 0, BITS(16, 31), PLAIN, NONE},
+    PAIRED_LOADING = {0, D | A | PAIR, 0, BITS(16, 31), PLAIN, LOAD_UPDATE},
+    PAIRED_STORING = {0, D | A | PAIR, 0, BITS(16, 31), PLAIN, STORE_UPDATE},
     COMPARE = {BITS(21, 30), A | B, BITS(6, 8), 0, PLAIN, NONE},
     COMPARE_TO = {0, A, BITS(6, 8), BITS(16, 31), PLAIN, NONE},
     LOGIC = {BITS(21, 30), D | A | B, 0, BIT(31), RC, NONE},
@@ -64,8 +67,8 @@ static const struct form
     TO_CR = {BITS(21, 30), D, 0, BITS(12, 19), PLAIN, MOVE_CR},
     TRAPPING = {BITS(21, 30), A | B, 0, BITS(6, 10) | BIT(31), PLAIN, TRAP};
 
-// The 83 instructions by objdump's raw names, which say cmp, cmpl, cmpi, cmpli and mtcrf for cmpw, cmplw, cmpwi, cmplwi
-// and mtcr0.
+// The 87 instructions by objdump's raw names, which say cmp, cmpl, cmpi, cmpli and mtcrf for cmpw, cmplw, cmpwi, cmplwi
+// and mtcr0. Opcodes are Power ISA's but for the doublewords, which Table 1.68 has.
 static const struct row { const char *name; uint32_t primary, extended; const struct form *form; } rows[] = {
     {"add", 31, 266, &SUM}, {"addc", 31, 10, &SUM}, {"adde", 31, 138, &SUM},
     {"subf", 31, 40, &SUM}, {"subfc", 31, 8, &SUM}, {"subfe", 31, 136, &SUM},
@@ -79,6 +82,7 @@ static const struct row { const char *name; uint32_t primary, extended; const st
     {"stb", 38, 0, &IMMEDIATE}, {"sth", 44, 0, &IMMEDIATE}, {"stw", 36, 0, &IMMEDIATE},
     {"lbzu", 35, 0, &LOADING}, {"lhzu", 41, 0, &LOADING}, {"lwzu", 33, 0, &LOADING},
     {"stbu", 39, 0, &STORING}, {"sthu", 45, 0, &STORING}, {"stwu", 37, 0, &STORING},
+    {"lvd", 5, 0, &PAIRED}, {"lvdu", 9, 0, &PAIRED_LOADING}, {"stvd", 6, 0, &PAIRED}, {"stvdu", 22, 0, &PAIRED_STORING},
     {"lbzx", 31, 87, &INDEXED}, {"lhzx", 31, 279, &INDEXED}, {"lwzx", 31, 23, &INDEXED},
     {"stbx", 31, 215, &INDEXED}, {"sthx", 31, 407, &INDEXED}, {"stwx", 31, 151, &INDEXED},
     {"dcbf", 31, 86, &FLUSH}, {"dcbi", 31, 470, &BLOCK}, {"dcbt", 31, 278, &TOUCH}, {"dcbz", 31, 1014, &BLOCK},
@@ -103,7 +107,7 @@ static const struct row *row_of(uint32_t word) {
     return NULL;
 }
 
-// The name that Power ISA's opcodes give the word, with its ends, or an empty one.
+// The name that the opcodes give the word, with its ends, or an empty one.
 static void name(uint32_t word, char text[16]) {
     const struct row *row = row_of(word);
     text[0] = 0;
@@ -115,8 +119,8 @@ static void name(uint32_t word, char text[16]) {
              ends == LK_AA && word & BIT(30) ? "a" : "");
 }
 
-// Every name that the 83 can bear.
-enum { SPELLINGS = 144 };
+// Every name that the 87 can bear.
+enum { SPELLINGS = 148 };
 static char spellings[SPELLINGS][16];
 static int spelled;
 
@@ -141,6 +145,9 @@ static void spell(void) {
 
 static bool register_is_here(uint32_t number) { return number <= 10 || number == 13 || number >= 28; }
 
+// The second register of the pair that a register begins.
+static uint32_t next(uint32_t number) { return (number + 1) % 32; }
+
 static const uint16_t sprs[] = {1, 8, 9, 22, 26, 27, 61, 62, 272, 308, 316, 336, 340, 63, 286, 287};
 enum { SPRS = sizeof sprs / sizeof *sprs, WRITTEN_SPRS = SPRS - 3 };
 
@@ -155,7 +162,7 @@ enum kind {
     // why the PPE 42 lacks a word that objdump names
     REGISTER, CR_FIELD, RESERVED, UPDATE, SPR, TO, BO_COUNTS, FXM,
     // why objdump does not name a word that the PPE 42 has
-    TG, BO, HINT,
+    TG, BO, HINT, DOUBLEWORD,
     KINDS, NO_KIND = KINDS
 };
 
@@ -171,6 +178,7 @@ static const char *const kinds[KINDS] = {
     [TG] = "tw with TG (Table 1.96, D2)",
     [BO] = "BO with bits that are ignored or only hint (9.4.15 to 9.4.17, D5)",
     [HINT] = "dcbf with hint bits (9.4.30, D3)",
+    [DOUBLEWORD] = "a virtual doubleword, which the 405 has not (Table 1.68, D38)",
 };
 
 static uint32_t reserved(const struct row *row) {
@@ -184,11 +192,12 @@ static uint32_t reserved(const struct row *row) {
 
 static bool registers_are_here(uint32_t word, int registers) {
     return (!(registers & D) || register_is_here(field(word, 6, 10))) &&
+           (!(registers & PAIR) || register_is_here(next(field(word, 6, 10)))) &&
            (!(registers & A) || register_is_here(field(word, 11, 15))) &&
            (!(registers & B) || register_is_here(field(word, 16, 20)));
 }
 
-// The restriction of the PPE 42 that a word of the 83 opcodes breaks.
+// The restriction of the PPE 42 that a word of the 87 opcodes breaks.
 static enum kind restriction(uint32_t word, const struct row *row) {
     const struct form *form = row->form;
     uint32_t d = field(word, 6, 10), a = field(word, 11, 15);
@@ -196,7 +205,7 @@ static enum kind restriction(uint32_t word, const struct row *row) {
     if (word & form->cr) return CR_FIELD;
     if (word & reserved(row)) return RESERVED;
     switch (form->rule) {
-    case LOAD_UPDATE: return a == 0 || a == d ? UPDATE : NO_KIND;
+    case LOAD_UPDATE: return a == 0 || a == d || (form->registers & PAIR && a == next(d)) ? UPDATE : NO_KIND;
     case STORE_UPDATE: return a == 0 ? UPDATE : NO_KIND;
     case READ_SPR: return spr_is_here(word, SPRS) ? NO_KIND : SPR;
     case WRITE_SPR: return spr_is_here(word, WRITTEN_SPRS) ? NO_KIND : SPR;
@@ -221,6 +230,7 @@ static uint32_t hints_of_bo(uint32_t word) {
 static enum kind leniency(uint32_t word, const struct row *row) {
     if (row->form == &TRAPPING && word & BIT(31)) return TG;
     if (row->form == &FLUSH && word & BITS(9, 10)) return HINT;
+    if (row->form->registers & PAIR) return DOUBLEWORD;
     return row->form->cr == BITS(11, 13) && hints_of_bo(word) ? BO : NO_KIND;
 }
 

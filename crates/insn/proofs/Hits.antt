@@ -3,8 +3,8 @@ use mathlib.Core.Path.{_≡_, refl}
 use mathlib.Core.Bool.{Bool, true, false}
 use Prim.Native.Nat.{ℕ, _%_, _<_}
 use lib.Dec.{lit<}
-use Rattle.insn.specs.Codes.{arithImmCode, arithCode, arithOneCode, multiplyCode, logicImmCode, logicCode, logicOneCode, compareImmCode, compareCode, rotateCode, shiftCode, loadCode, storeCode, loadIndexedCode, storeIndexedCode, branchCode, sprCode, moveCode, cacheCode}
-use Rattle.insn.specs.Read.{arithImmAt, arithAt, arithOneAt, multiplyAt, logicImmAt, logicAt, logicOneAt, compareImmAt, compareAt, rotateImmAt, rotateAt, shiftAt, srawiAt, loadAt, loadIndexedAt, storeAt, storeIndexedAt, branchAt, branchIfAt, branchToAt, trapAt, moveSprAt, moveRegAt, wrteeiAt, rfiAt, syncAt, cacheAt, primary, primaryRows, loadStore, loadStoreRows, arithmetic, arithmeticRows, logical, logicalRows, storage, storageRows, system, systemRows, opcode19, rows19, opcode4, rows4}
+use Rattle.insn.specs.Codes.{arithImmCode, arithCode, arithOneCode, multiplyCode, logicImmCode, logicCode, logicOneCode, compareImmCode, compareCode, rotateCode, shiftCode, loadCode, storeCode, loadIndexedCode, storeIndexedCode, loadDoubleCode, storeDoubleCode, branchCode, sprCode, moveCode, cacheCode}
+use Rattle.insn.specs.Read.{arithImmAt, arithAt, arithOneAt, multiplyAt, logicImmAt, logicAt, logicOneAt, compareImmAt, compareAt, rotateImmAt, rotateAt, shiftAt, srawiAt, loadAt, loadIndexedAt, storeAt, storeIndexedAt, loadDoubleAt, storeDoubleAt, branchAt, branchIfAt, branchToAt, trapAt, moveSprAt, moveRegAt, wrteeiAt, rfiAt, syncAt, cacheAt, primary, primaryRows, loadStore, loadStoreRows, arithmetic, arithmeticRows, logical, logicalRows, storage, storageRows, system, systemRows, opcode19, rows19, opcode4, rows4}
 use Rattle.insn.specs.declared.fields.Fields.{Fields}
 use Rattle.insn.specs.declared.instr.Instr.{Instr}
 use Rattle.insn.specs.declared.instr.Decoded.{Decoded}
@@ -84,6 +84,16 @@ hit-store Width.Half false = (λ f. refl, lit< tt)
 hit-store Width.Half true = (λ f. refl, lit< tt)
 hit-store Width.Word false = (λ f. refl, lit< tt)
 hit-store Width.Word true = (λ f. refl, lit< tt)
+
+pub hit-load-double : (update : Bool) → Primary (loadDoubleCode update) (loadDoubleAt update)
+unfolding primary primaryRows loadStore loadStoreRows
+hit-load-double false = (λ f. refl, lit< tt)
+hit-load-double true = (λ f. refl, lit< tt)
+
+pub hit-store-double : (update : Bool) → Primary (storeDoubleCode update) (storeDoubleAt update)
+unfolding primary primaryRows loadStore loadStoreRows
+hit-store-double false = (λ f. refl, lit< tt)
+hit-store-double true = (λ f. refl, lit< tt)
 
 pub hit-rotate-imm : (op : RotateOp) → Primary (rotateCode op) (rotateImmAt op)
 unfolding primary primaryRows

@@ -1,18 +1,19 @@
 -- What is written is read back, what is read is written back, and an illegal word is no valid instruction's. Assumes nothing.
 use mathlib.Core.Path.{_≡_, _∙_, refl, sym, ap}
-use mathlib.Core.Bool.{Bool, true, false, cond, not, _&&_}
+use mathlib.Core.Bool.{Bool, true, false, cond, not, _&&_, _||_}
 use mathlib.Core.List.{List, [], _∷_}
 use Prim.Native.Nat.{ℕ, _+_, _%_, _<_, _≤_}
 use native.Mathlib.Omega.{arith}
 use native.Mathlib.Decide.{decLe}
 use native.Mathlib.Nat.{lt-of-not-le}
-use lib.Dec.{eqb, ltb, lit<}
+use lib.Dec.{eqb, leb, ltb, lit<}
 use borrow.Author.Tests.{eqb-true, eq-eqb, lt-leb, le-leb, ne-eqb, ltb-true}
 use Rattle.word.proofs.Truth.{and-true}
+use Rattle.word.proofs.Below.{agree-at}
 use Rattle.word.specs.Bits.{bitsAt, fieldAt}
 use Rattle.insn.specs.Codes.{moveFxm}
 use Rattle.insn.specs.Fields.{fieldsOf, wordD, wordX, wordXO, wordXFX, wordE, wordM, wordB, wordI}
-use Rattle.insn.specs.Valid.{fits, regOf, twoRegs, threeRegs, isSpr, readOnly, sprOk, isTo, hintOk, loadForm, storeForm, branchForm, validOf}
+use Rattle.insn.specs.Valid.{fits, regOf, twoRegs, threeRegs, pairedWith, isVdr, isSpr, readOnly, sprOk, isTo, hintOk, loadForm, storeForm, loadDoubleForm, branchForm, validOf}
 use Rattle.insn.specs.Write.{wordOf}
 use Rattle.insn.specs.Read.{primary, primaryRows, arithmetic, opcode19, opcode4, guessOf, settled, decodeOf}
 use Rattle.insn.specs.declared.fields.Fields.{Fields}
@@ -28,7 +29,7 @@ use Rattle.insn.specs.declared.instr.System.{System}
 use Rattle.insn.specs.declared.instr.SprOp.{SprOp}
 use Rattle.insn.specs.declared.instr.CacheOp.{CacheOp}
 use Rattle.insn.proofs.Parts.{DParts, d-parts, XParts, x-parts, XOParts, xo-parts, XFXParts, xfx-parts, EParts, e-parts, MParts, m-parts, BParts, b-parts, IParts, i-parts}
-use Rattle.insn.proofs.Hits.{Primary, XO31, Extended, opcode31, X31, hit-arith-imm, hit-arith, hit-arith-one, hit-multiply, hit-logic-imm, hit-logic, hit-logic-one, hit-compare-imm, hit-compare, hit-rotate-imm, hit-rotate, hit-shift, hit-srawi, hit-load, hit-load-indexed, hit-store, hit-store-indexed, hit-branch, hit-branch-if, hit-branch-to, hit-trap, hit-spr, hit-move, hit-wrteei, hit-rfi, hit-sync, hit-cache}
+use Rattle.insn.proofs.Hits.{Primary, XO31, Extended, opcode31, X31, hit-arith-imm, hit-arith, hit-arith-one, hit-multiply, hit-logic-imm, hit-logic, hit-logic-one, hit-compare-imm, hit-compare, hit-rotate-imm, hit-rotate, hit-shift, hit-srawi, hit-load, hit-load-indexed, hit-store, hit-store-indexed, hit-load-double, hit-store-double, hit-branch, hit-branch-if, hit-branch-to, hit-trap, hit-spr, hit-move, hit-wrteei, hit-rfi, hit-sync, hit-cache}
 
 -- a word that reads as an instruction is what that instruction is written as, and the instruction is valid
 settled-is : (w : ℕ) (d : Decoded) (i : Instr) → settled w d ≡ Decoded.Insn i → (validOf i ≡ true) × (wordOf i ≡ w)
@@ -57,6 +58,15 @@ far m n k h l = ne-eqb n k (omega (arith, ltb-true))
 pub reg-lt : (r : ℕ) → regOf r ≡ true → r < 32
 unfolding regOf
 reg-lt = below regOf 32 (λ r h. simp (lt-leb r 10 (omega arith), far 32, le-leb 28 r (omega arith), lt-leb r 31 (omega arith)))
+
+-- Table 1.33: the first registers of the fourteen pairs
+pub pairs-are : (n : ℕ) → isVdr n ≡ (leb n 9 || leb 28 n && leb n 31)
+unfolding regOf
+pairs-are n =
+    elim (decLe 32 n) [
+      | yes h ↦ simp (lt-leb n 9 (omega arith), lt-leb n 10 (omega arith), far 32, le-leb 28 n (omega arith), lt-leb n 31 (omega arith))
+      | no k ↦ agree-at (λ n m. isVdr n) (λ n m. leb n 9 || leb 28 n && leb n 31) 32 1 tt n 0 (lt-of-not-le k) (lit< tt)
+    ]
 
 spr-lt : (n : ℕ) → isSpr n ≡ true → n < 1024
 unfolding isSpr
@@ -215,6 +225,14 @@ guess-written (Instr.LoadStore (LoadStore.Store width update rs ra d)) v =
     let r = ands (regOf rs) (regOf ra ∷ storeForm update ra ∷ []) (h .1) in
     by-d (hit-store width update) (omega facts) (λ f p. rw (p .rt-is, p .ra-is, p .imm-is))
 guess-written (Instr.LoadStore (LoadStore.StoreIndexed width rs ra rb)) v = by-x of-31 false (hit-store-indexed width) (three rs ra rb v) (λ f p. rw (p .rt-is, p .ra-is, p .rb-is))
+guess-written (Instr.LoadStore (LoadStore.LoadDouble update dt ra d)) v =
+    let h = and-true (fits 16 d) (isVdr dt && regOf ra && loadDoubleForm update dt ra) v in
+    let r = ands (regOf dt) (regOf (pairedWith dt) ∷ regOf ra ∷ loadDoubleForm update dt ra ∷ []) (h .1) in
+    by-d (hit-load-double update) (omega facts) (λ f p. rw (p .rt-is, p .ra-is, p .imm-is))
+guess-written (Instr.LoadStore (LoadStore.StoreDouble update ds ra d)) v =
+    let h = and-true (fits 16 d) (isVdr ds && regOf ra && storeForm update ra) v in
+    let r = ands (regOf ds) (regOf (pairedWith ds) ∷ regOf ra ∷ storeForm update ra ∷ []) (h .1) in
+    by-d (hit-store-double update) (omega facts) (λ f p. rw (p .rt-is, p .ra-is, p .imm-is))
 guess-written (Instr.Branch (Branch.Always aa lk li)) v = by-i aa lk hit-branch (omega facts) (λ f p. rw (p .aa-is, p .rc-is, p .li-is))
 guess-written (Instr.Branch (Branch.Conditional bo bi bd aa lk)) v =
     let h = ands (fits 5 bo) (fits 2 bi ∷ fits 14 bd ∷ []) v in

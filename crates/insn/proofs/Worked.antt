@@ -1,6 +1,6 @@
--- The scope's worked words, and what each reads as. Assumes nothing.
+-- The scope's worked words and some of virtual doublewords, and what each reads as. Assumes nothing.
 use mathlib.Core.Path.{_≡_, refl}
-use mathlib.Core.Bool.{false}
+use mathlib.Core.Bool.{true, false}
 use mathlib.Core.List.{List, [], _∷_, map}
 use Prim.Native.Nat.{ℕ}
 use Rattle.insn.specs.Fields.{fieldsOf}
@@ -24,6 +24,11 @@ worked =
     ∷ (0xA4630000, Decoded.Illegal)  -- lhzu r3,0(r3)
     ∷ (0xA4600000, Decoded.Illegal)  -- lhzu r3,0(0)
     ∷ (0xA1640000, Decoded.Illegal)  -- lhz r11,0(r4)
+    ∷ (0x17E40008, Decoded.Insn (Instr.LoadStore (LoadStore.LoadDouble false 31 4 8)))  -- lvd r31,8(r4)
+    ∷ (0x14630000, Decoded.Insn (Instr.LoadStore (LoadStore.LoadDouble false 3 3 0)))  -- lvd r3,0(r3)
+    ∷ (0x5863FFF8, Decoded.Insn (Instr.LoadStore (LoadStore.StoreDouble true 3 3 0xFFF8)))  -- stvdu r3,-8(r3)
+    ∷ (0x15440000, Decoded.Illegal)  -- lvd r10,0(r4)
+    ∷ (0x24640008, Decoded.Illegal)  -- lvdu r3,8(r4)
     ∷ []
 
 pub words-read : map (λ (row : ℕ × Decoded). decodeOf (row .0)) worked ≡ map (λ (row : ℕ × Decoded). row .1) worked

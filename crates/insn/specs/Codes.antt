@@ -1,6 +1,6 @@
 -- The opcode of each mnemonic, in decimal as Power ISA 2.07 prints it, with the mnemonic's section in the manual.
 use Prim.Native.Nat.{ℕ, _+_}
-use mathlib.Core.Bool.{Bool}
+use mathlib.Core.Bool.{Bool, true, false}
 use Rattle.word.specs.Bits.{digit}
 use Rattle.insn.specs.declared.instr.ArithImmOp.{ArithImmOp}
 use Rattle.insn.specs.declared.instr.ArithOp.{ArithOp}
@@ -47,6 +47,15 @@ abbrev pub storeCode : Width → Bool → ℕ
 storeCode Width.Byte update = 38 + digit update  -- stb 9.4.82, stbu 9.4.83
 storeCode Width.Half update = 44 + digit update  -- sth 9.4.86, sthu 9.4.87
 storeCode Width.Word update = 36 + digit update  -- stw 9.4.93, stwu 9.4.94
+
+-- Table 1.68
+abbrev pub loadDoubleCode : Bool → ℕ
+loadDoubleCode false = 5  -- lvd 9.4.46
+loadDoubleCode true = 9  -- lvdu 9.4.47
+
+abbrev pub storeDoubleCode : Bool → ℕ
+storeDoubleCode false = 6  -- stvd 9.4.90
+storeDoubleCode true = 22  -- stvdu 9.4.91
 
 -- primary opcodes of M forms; rlwnm is 23
 abbrev pub rotateCode : RotateOp → ℕ

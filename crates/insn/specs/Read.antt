@@ -5,7 +5,7 @@ use mathlib.Core.Bool.{Bool, true, false, cond, _&&_}
 use mathlib.Core.List.{List, [], _∷_, _++_}
 use lib.Dec.{eqb}
 use Rattle.insn.specs.Fields.{fieldsOf}
-use Rattle.insn.specs.Codes.{arithImmCode, arithCode, arithOneCode, multiplyCode, logicImmCode, logicCode, logicOneCode, compareImmCode, compareCode, rotateCode, shiftCode, loadCode, storeCode, loadIndexedCode, storeIndexedCode, branchCode, sprCode, moveCode, cacheCode}
+use Rattle.insn.specs.Codes.{arithImmCode, arithCode, arithOneCode, multiplyCode, logicImmCode, logicCode, logicOneCode, compareImmCode, compareCode, rotateCode, shiftCode, loadCode, storeCode, loadIndexedCode, storeIndexedCode, loadDoubleCode, storeDoubleCode, branchCode, sprCode, moveCode, cacheCode}
 use Rattle.insn.specs.Valid.{validOf}
 use Rattle.insn.specs.Write.{wordOf}
 use Rattle.insn.specs.declared.fields.Fields.{Fields}
@@ -98,6 +98,12 @@ storeAt width update f = Instr.LoadStore (LoadStore.Store width update (f .rt) (
 
 abbrev pub storeIndexedAt : Width → Fields → Instr
 storeIndexedAt width f = Instr.LoadStore (LoadStore.StoreIndexed width (f .rt) (f .ra) (f .rb))
+
+abbrev pub loadDoubleAt : Bool → Fields → Instr
+loadDoubleAt update f = Instr.LoadStore (LoadStore.LoadDouble update (f .rt) (f .ra) (f .imm))
+
+abbrev pub storeDoubleAt : Bool → Fields → Instr
+storeDoubleAt update f = Instr.LoadStore (LoadStore.StoreDouble update (f .rt) (f .ra) (f .imm))
 
 abbrev pub branchAt : Fields → Instr
 branchAt f = Instr.Branch (Branch.Always (f .aa) (f .rc) (f .li))
@@ -205,6 +211,8 @@ loadStoreRows =
     ++ rows (λ width. loadCode width true) (λ width. loadAt width true) (Byte ∷ Half ∷ Word ∷ [])
     ++ rows (λ width. storeCode width false) (λ width. storeAt width false) (Byte ∷ Half ∷ Word ∷ [])
     ++ rows (λ width. storeCode width true) (λ width. storeAt width true) (Byte ∷ Half ∷ Word ∷ [])
+    ++ rows loadDoubleCode loadDoubleAt (false ∷ true ∷ [])
+    ++ rows storeDoubleCode storeDoubleAt (false ∷ true ∷ [])
 
 unfoldable pub loadStore : ℕ → Fields → Decoded
 loadStore op = find loadStoreRows nothing op

@@ -1,5 +1,5 @@
 -- Which registers, numbers and forms are valid. An instruction that is not valid is refused with 6, and its word is illegal.
-use Prim.Native.Nat.{ℕ, _+_, _^_}
+use Prim.Native.Nat.{ℕ, _+_, _%_, _^_}
 use mathlib.Core.Bool.{Bool, true, not, _&&_, _||_}
 use lib.Dec.{eqb, ltb, leb}
 use Rattle.word.specs.Bits.{bitAt}
@@ -29,6 +29,14 @@ twoRegs a b = regOf a && regOf b
 abbrev pub threeRegs : ℕ → ℕ → ℕ → Bool
 threeRegs a b c = twoRegs a b && regOf c
 
+-- the GPR that holds the low-order word of VDR(n): the next one, modulo 32 (8.4)
+abbrev pub pairedWith : ℕ → ℕ
+pairedWith n = (n + 1) % 32
+
+-- VDR(n) is defined where both its GPRs are: 0 to 9 and 28 to 31 (Table 1.33)
+abbrev pub isVdr : ℕ → Bool
+isVdr n = twoRegs n (pairedWith n)
+
 -- Table 1.34: XER, LR, CTR, DEC, SRR0, SRR1, EDR, ISR, IVPR, SPRG0, PIR, PVR, DBCR, DACR, TSR, TCR
 unfoldable pub isSpr : ℕ → Bool
 isSpr n =
@@ -48,6 +56,10 @@ loadForm update rt ra = not update || not (eqb ra 0) && not (eqb ra rt)
 
 abbrev pub storeForm : Bool → ℕ → Bool
 storeForm update ra = not update || not (eqb ra 0)
+
+-- of lvdu RA = DT, RA = (DT + 1) % 32 and RA = 0 (9.4.47): those of a load into either GPR; stvdu goes by storeForm (9.4.91; docs/DECISIONS.md D38)
+abbrev pub loadDoubleForm : Bool → ℕ → ℕ → Bool
+loadDoubleForm update dt ra = loadForm update dt ra && loadForm update (pairedWith dt) ra
 
 -- bit n of the five of BO
 abbrev pub boBit : ℕ → ℕ → Bool
@@ -88,6 +100,8 @@ validOf (Instr.LoadStore (LoadStore.Load width update rt ra d)) = fits 16 d && (
 validOf (Instr.LoadStore (LoadStore.LoadIndexed width rt ra rb)) = threeRegs rt ra rb
 validOf (Instr.LoadStore (LoadStore.Store width update rs ra d)) = fits 16 d && (twoRegs rs ra && storeForm update ra)
 validOf (Instr.LoadStore (LoadStore.StoreIndexed width rs ra rb)) = threeRegs rs ra rb
+validOf (Instr.LoadStore (LoadStore.LoadDouble update dt ra d)) = fits 16 d && (isVdr dt && regOf ra && loadDoubleForm update dt ra)
+validOf (Instr.LoadStore (LoadStore.StoreDouble update ds ra d)) = fits 16 d && (isVdr ds && regOf ra && storeForm update ra)
 validOf (Instr.Branch (Branch.Always aa lk li)) = fits 24 li
 validOf (Instr.Branch (Branch.Conditional bo bi bd aa lk)) = fits 5 bo && fits 2 bi && fits 14 bd
 validOf (Instr.Branch (Branch.Register op bo bi bh lk)) = fits 5 bo && fits 2 bi && fits 2 bh && branchForm op bo

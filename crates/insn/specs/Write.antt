@@ -3,7 +3,7 @@ use Prim.Native.Nat.{ℕ}
 use mathlib.Core.Bool.{Bool, false, cond}
 use Rattle.word.specs.Bits.{bitsAt}
 use Rattle.insn.specs.Fields.{wordD, wordX, wordXO, wordXFX, wordE, wordM, wordB, wordI}
-use Rattle.insn.specs.Codes.{arithImmCode, arithCode, arithOneCode, multiplyCode, logicImmCode, logicCode, logicOneCode, compareImmCode, compareCode, rotateCode, shiftCode, loadCode, storeCode, loadIndexedCode, storeIndexedCode, branchCode, sprCode, moveCode, moveFxm, cacheCode}
+use Rattle.insn.specs.Codes.{arithImmCode, arithCode, arithOneCode, multiplyCode, logicImmCode, logicCode, logicOneCode, compareImmCode, compareCode, rotateCode, shiftCode, loadCode, storeCode, loadIndexedCode, storeIndexedCode, loadDoubleCode, storeDoubleCode, branchCode, sprCode, moveCode, moveFxm, cacheCode}
 use Rattle.insn.specs.Valid.{validOf}
 use Rattle.insn.specs.declared.instr.Instr.{Instr}
 use Rattle.insn.specs.declared.instr.Arithmetic.{Arithmetic}
@@ -33,6 +33,8 @@ wordOf (Instr.LoadStore (LoadStore.Load width update rt ra d)) = wordD (loadCode
 wordOf (Instr.LoadStore (LoadStore.LoadIndexed width rt ra rb)) = wordX 31 rt ra rb (loadIndexedCode width) false
 wordOf (Instr.LoadStore (LoadStore.Store width update rs ra d)) = wordD (storeCode width update) rs ra d
 wordOf (Instr.LoadStore (LoadStore.StoreIndexed width rs ra rb)) = wordX 31 rs ra rb (storeIndexedCode width) false
+wordOf (Instr.LoadStore (LoadStore.LoadDouble update dt ra d)) = wordD (loadDoubleCode update) dt ra d
+wordOf (Instr.LoadStore (LoadStore.StoreDouble update ds ra d)) = wordD (storeDoubleCode update) ds ra d
 wordOf (Instr.Branch (Branch.Always aa lk li)) = wordI li aa lk  -- b 9.4.14
 wordOf (Instr.Branch (Branch.Conditional bo bi bd aa lk)) = wordB bo bi bd aa lk  -- bc 9.4.15
 wordOf (Instr.Branch (Branch.Register op bo bi bh lk)) = wordX 19 bo bi bh (branchCode op) lk

@@ -1,6 +1,6 @@
 // The opcode of each mnemonic: the primary opcode in bits 0:5 of the D and M forms, the extended one of the others.
 ghost use mathlib.Core.Path.{_≡_};
-ghost use Rattle.insn.specs.Codes.{arithImmCode, arithCode, arithOneCode, multiplyCode, logicImmCode, logicCode, logicOneCode, compareImmCode, compareCode, rotateCode, shiftCode, loadCode, storeCode, loadIndexedCode, storeIndexedCode, branchCode, sprCode, moveCode, moveFxm, cacheCode};
+ghost use Rattle.insn.specs.Codes.{arithImmCode, arithCode, arithOneCode, multiplyCode, logicImmCode, logicCode, logicOneCode, compareImmCode, compareCode, rotateCode, shiftCode, loadCode, storeCode, loadIndexedCode, storeIndexedCode, loadDoubleCode, storeDoubleCode, branchCode, sprCode, moveCode, moveFxm, cacheCode};
 use crate::instr::*;
 use word::bits::digit_of;
 use word::width::Width;
@@ -164,6 +164,18 @@ pub fn store_indexed_code(width: Width) -> u32
         Width::Half => 407,
         Width::Word => 151,
     }
+}
+
+pub fn load_double_code(update: bool) -> u32
+    ensures { λ r. ⌜ r ≡ loadDoubleCode update ⌝ }
+{
+    if update { 9 } else { 5 }
+}
+
+pub fn store_double_code(update: bool) -> u32
+    ensures { λ r. ⌜ r ≡ storeDoubleCode update ⌝ }
+{
+    if update { 22 } else { 6 }
 }
 
 pub fn branch_code(op: BranchOp) -> u32

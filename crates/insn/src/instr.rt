@@ -161,6 +161,20 @@ pub enum LoadStore {
         ra: u8,
         rb: u8,
     },
+    // lvd and lvdu
+    LoadDouble {
+        update: bool,
+        dt: u8,
+        ra: u8,
+        d: u16,
+    },
+    // stvd and stvdu
+    StoreDouble {
+        update: bool,
+        ds: u8,
+        ra: u8,
+        d: u16,
+    },
 }
 
 pub enum Branch {

@@ -3,12 +3,12 @@
 // Each function takes the word apart for itself, so that only the parts it names are worked out.
 ghost use mathlib.Core.Path.{_≡_};
 ghost use mathlib.Core.Bool.{cond};
-ghost use Rattle.insn.specs.Codes.{arithImmCode, arithCode, multiplyCode, logicImmCode, logicCode, rotateCode, shiftCode, loadCode, storeCode, branchCode};
+ghost use Rattle.insn.specs.Codes.{arithImmCode, arithCode, multiplyCode, logicImmCode, logicCode, rotateCode, shiftCode, loadCode, storeCode, loadDoubleCode, storeDoubleCode, branchCode};
 ghost use Rattle.insn.specs.Fields.{fieldsOf};
 ghost use Rattle.insn.specs.Valid.{validOf};
 ghost use Rattle.insn.specs.Write.{writtenOf};
 ghost use Rattle.insn.specs.declared.instr.Decoded.{Decoded};
-ghost use Rattle.insn.specs.Read.{settleOf, settled, decodeOf, loadStore, opcode4, opcode19, arithmetic, logical, storage, system, arithImmAt, arithAt, arithOneAt, multiplyAt, logicImmAt, logicAt, logicOneAt, compareImmAt, compareAt, rotateImmAt, rotateAt, shiftAt, srawiAt, loadAt, loadIndexedAt, storeAt, storeIndexedAt, branchAt, branchIfAt, branchToAt, trapAt, moveSprAt, moveRegAt, wrteeiAt, rfiAt, syncAt, cacheAt};
+ghost use Rattle.insn.specs.Read.{settleOf, settled, decodeOf, loadStore, opcode4, opcode19, arithmetic, logical, storage, system, arithImmAt, arithAt, arithOneAt, multiplyAt, logicImmAt, logicAt, logicOneAt, compareImmAt, compareAt, rotateImmAt, rotateAt, shiftAt, srawiAt, loadAt, loadIndexedAt, storeAt, storeIndexedAt, loadDoubleAt, storeDoubleAt, branchAt, branchIfAt, branchToAt, trapAt, moveSprAt, moveRegAt, wrteeiAt, rfiAt, syncAt, cacheAt};
 use crate::fields::fields_of;
 use crate::forms;
 use crate::instr::*;
@@ -86,6 +86,10 @@ fn read_load_store(word: u32) -> Decoded
         39 => store(word, Width::Byte, true),
         45 => store(word, Width::Half, true),
         37 => store(word, Width::Word, true),
+        5 => load_double(word, false),
+        9 => load_double(word, true),
+        6 => store_double(word, false),
+        22 => store_double(word, true),
         _ => Decoded::Illegal,
     }
 }
@@ -471,6 +475,34 @@ fn store_indexed(word: u32, width: Width) -> Decoded
         rb: f.rb,
     });
     settle(word, i, forms::store_indexed(width, f.rt, f.ra, f.rb))
+}
+
+fn load_double(word: u32, update: bool) -> Decoded
+    requires { ⌜ fieldsOf word .op ≡ loadDoubleCode update ⌝ }
+    ensures { λ r. ⌜ r ≡ settleOf word (loadDoubleAt update (fieldsOf word)) ⌝ }
+{
+    let f = fields_of(word);
+    let i = Instr::LoadStore(LoadStore::LoadDouble {
+        update,
+        dt: f.rt,
+        ra: f.ra,
+        d: f.imm,
+    });
+    settle_whole(i, forms::load_double(update, f.rt, f.ra, f.imm))
+}
+
+fn store_double(word: u32, update: bool) -> Decoded
+    requires { ⌜ fieldsOf word .op ≡ storeDoubleCode update ⌝ }
+    ensures { λ r. ⌜ r ≡ settleOf word (storeDoubleAt update (fieldsOf word)) ⌝ }
+{
+    let f = fields_of(word);
+    let i = Instr::LoadStore(LoadStore::StoreDouble {
+        update,
+        ds: f.rt,
+        ra: f.ra,
+        d: f.imm,
+    });
+    settle_whole(i, forms::store_double(update, f.rt, f.ra, f.imm))
 }
 
 fn branch(word: u32) -> Decoded

@@ -1,7 +1,7 @@
 // Which registers there are, which special-purpose registers have a number, and which forms are valid.
 ghost use mathlib.Core.Path.{_≡_};
 ghost use Prim.Native.Nat.{_<_};
-ghost use Rattle.insn.specs.Valid.{regOf, twoRegs, threeRegs, isSpr, readOnly, sprOk, loadForm, storeForm, boBit, branchForm, isTo, hintOk};
+ghost use Rattle.insn.specs.Valid.{regOf, twoRegs, threeRegs, pairedWith, isVdr, isSpr, readOnly, sprOk, loadForm, storeForm, loadDoubleForm, boBit, branchForm, isTo, hintOk};
 use crate::instr::*;
 use word::bits::Bit;
 use word::bits::bit_at;
@@ -22,6 +22,19 @@ pub fn three_defined(a: u8, b: u8, c: u8) -> bool
     ensures { λ r. ⌜ r ≡ threeRegs a b c ⌝ }
 {
     two_defined(a, b) & reg_defined(c)
+}
+
+// The GPR that holds the low-order word of VDR(n): 31 is paired with 0.
+pub fn paired_with(n: u8) -> u8
+    ensures { λ r. ⌜ r ≡ pairedWith n ⌝ }
+{
+    (n % 32 + 1) % 32
+}
+
+pub fn vdr_defined(n: u8) -> bool
+    ensures { λ r. ⌜ r ≡ isVdr n ⌝ }
+{
+    two_defined(n, paired_with(n))
 }
 
 // The numbers of Table 1.34.
@@ -72,6 +85,12 @@ pub fn store_form(update: bool, ra: u8) -> bool
     ensures { λ r. ⌜ r ≡ storeForm update ra ⌝ }
 {
     !update | (ra != 0)
+}
+
+pub fn load_double_form(update: bool, dt: u8, ra: u8) -> bool
+    ensures { λ r. ⌜ r ≡ loadDoubleForm update dt ra ⌝ }
+{
+    load_form(update, dt, ra) & load_form(update, paired_with(dt), ra)
 }
 
 // Bit n of the five of BO.

@@ -110,6 +110,8 @@ fn load_store(s: LoadStore) -> Written
             d,
         } => forms::store(width, update, rs, ra, d),
         LoadStore::StoreIndexed { width, rs, ra, rb } => forms::store_indexed(width, rs, ra, rb),
+        LoadStore::LoadDouble { update, dt, ra, d } => forms::load_double(update, dt, ra, d),
+        LoadStore::StoreDouble { update, ds, ra, d } => forms::store_double(update, ds, ra, d),
     }
 }
 

@@ -12,7 +12,7 @@ use Rattle.word.proofs.Truth.{never}
 use Rattle.word.specs.declared.sum.Sum.{Sum}
 use Rattle.word.specs.declared.shift.Shifted.{Shifted}
 use Rattle.memory.specs.Access.{pick, accessOf, reachesPast}
-use Rattle.memory.specs.Load.{loaded, loadOf, fetchOf}
+use Rattle.memory.specs.Load.{loaded, loadOf, loadedDouble, loadDoubleOf, fetchOf}
 use Rattle.memory.specs.Store.{blockAt}
 use Rattle.memory.specs.declared.access.Access.{Access}
 use Rattle.memory.specs.declared.load.Loaded.{Loaded}
@@ -30,7 +30,7 @@ use Rattle.insn.specs.declared.instr.Branch.{Branch}
 use Rattle.insn.specs.declared.instr.System.{System}
 use Rattle.insn.specs.declared.instr.SprOp.{SprOp}
 use Rattle.insn.specs.declared.instr.MoveOp.{MoveOp}
-use Rattle.machine.specs.State.{same, with, withGpr}
+use Rattle.machine.specs.State.{same, with, withGpr, withVdr}
 use Rattle.machine.specs.Interrupt.{enteredOf, vectorFor, accessNoted, programNoted, notedOf, promotedOf, codeOf, haltedOf, takenFor, interruptedOf}
 use Rattle.machine.specs.Timer.{eventNoted, tickedOf, actsOf, actedOf}
 use Rattle.machine.specs.Result.{nextOf, cr0Of, recordedOf, carriedOf, overflowedOf, resultOf}
@@ -38,7 +38,7 @@ use Rattle.machine.specs.Arithmetic.{summedOf, arithmeticOf}
 use Rattle.machine.specs.Logical.{logicalOf}
 use Rattle.machine.specs.Compare.{comparedOf, compareOf}
 use Rattle.machine.specs.Rotate.{shiftedOf, shiftOf, rotateOf}
-use Rattle.machine.specs.LoadStore.{offsetEa, indexedEa, updatedOf, loadedState, loadAt, storedState, storeAt, loadStoreOf}
+use Rattle.machine.specs.LoadStore.{offsetEa, indexedEa, updatedOf, loadedState, loadAt, storedState, storeAt, loadedDoubleState, loadDoubleAt, storeDoubleAt, loadStoreOf}
 use Rattle.machine.specs.Branch.{linkedOf, branchedOf, branchOf}
 use Rattle.machine.specs.Cache.{clearedState, clearAt, cacheOf}
 use Rattle.machine.specs.System.{trapOf, sprOf, resetOf, dbcrWritten, decWritten, isrWritten, tsrWritten, written, sprWritten, enabledOf, movedOf, returnedOf, systemOf}
@@ -84,6 +84,10 @@ module _ {n : ℕ} {s : State} (k : Coded n s) where
   gpr-coded : (g v : ℕ) → Coded n (withGpr s g v)
   unfolding withGpr
   gpr-coded g v = record { halt = k .halt }
+
+  vdr-coded : (g v : ℕ) → Coded n (withVdr s g v)
+  unfolding withVdr withGpr
+  vdr-coded g v = record { halt = k .halt }
 
   with-coded : (r : Reg) (v : ℕ) → same r Reg.Halt ≡ false → Coded n (with s r v)
   unfolding with
@@ -253,6 +257,12 @@ module _ (s : State) (z : s .halt ≡ 0) where
   load-left m Access.Unaligned v rt update ra ea = fault (Cause.Alignment ea false)
   load-left m Access.Outside v rt update ra ea = outside (Cause.DataStorage ea false)
 
+  load-double-left : (m : List ℕ) (x : Access) (v dt : ℕ) (update : Bool) (ra ea : ℕ)
+      → Left (record { st = loadedDoubleState s (loadedDouble x v) dt update ra ea; mem = m; past = reachesPast x })
+  load-double-left m Access.Served v dt update ra ea = untold (next-coded (vdr-coded (updated-coded five update ra ea) dt v))
+  load-double-left m Access.Unaligned v dt update ra ea = fault (Cause.Alignment ea false)
+  load-double-left m Access.Outside v dt update ra ea = outside (Cause.DataStorage ea false)
+
   store-left : (m : List ℕ) (x : Access) (update : Bool) (ra ea : ℕ) → Left (record { st = storedState s x update ra ea; mem = m; past = reachesPast x })
   store-left m Access.Served update ra ea = untold (next-coded (updated-coded five update ra ea))
   store-left m Access.Unaligned update ra ea = fault (Cause.Alignment ea true)
@@ -265,11 +275,13 @@ module _ (s : State) (z : s .halt ≡ 0) where
 
 module _ (s : State) (z : s .halt ≡ 0) (m : List ℕ) where
   load-store-left : (i : LoadStore) → Left (loadStoreOf s m i)
-  unfolding loadStoreOf loadAt storeAt loadOf
+  unfolding loadStoreOf loadAt storeAt loadDoubleAt storeDoubleAt loadOf loadDoubleOf
   load-store-left (LoadStore.Load w update rt ra d) = load-left s z m (accessOf (length m) (offsetEa s ra d) (bytes w)) _ rt update ra _
   load-store-left (LoadStore.LoadIndexed w rt ra rb) = load-left s z m (accessOf (length m) (indexedEa s ra rb) (bytes w)) _ rt false ra _
   load-store-left (LoadStore.Store w update rs ra d) = store-left s z _ (accessOf (length m) (offsetEa s ra d) (bytes w)) update ra _
   load-store-left (LoadStore.StoreIndexed w rs ra rb) = store-left s z _ (accessOf (length m) (indexedEa s ra rb) (bytes w)) false ra _
+  load-store-left (LoadStore.LoadDouble update dt ra d) = load-double-left s z m (accessOf (length m) (offsetEa s ra d) 8) _ dt update ra _
+  load-store-left (LoadStore.StoreDouble update ds ra d) = store-left s z _ (accessOf (length m) (offsetEa s ra d) 8) update ra _
 
   cache-left : (op : CacheOp) (ra rb : ℕ) → Left (cacheOf s m op ra rb)
   unfolding cacheOf clearAt

@@ -3,4 +3,3 @@ pub mod Refusals
 pub mod Registers
 pub mod Quiet
 pub mod Halts
-pub mod Marks

@@ -1,5 +1,5 @@
--- One register written: it holds what was written, and every other register and every GPR is as it was; the same for a GPR. Assumes nothing.
-use Prim.Native.Nat.{ℕ, _%_, _<_}
+-- One register written: it holds what was written, and every other register and every GPR is as it was; the same for a GPR and for a pair. Assumes nothing.
+use Prim.Native.Nat.{ℕ, _/_, _%_, _^_, _<_}
 use native.Mathlib.Omega.{arith}
 use mathlib.Core.Bool.{Bool, true, false, cond}
 use mathlib.Core.List.{List, [], _∷_}
@@ -9,10 +9,10 @@ use lib.ListN.{length, getD, length-set}
 use lib.Seq.{getD-set-same, getD-set-other, ext-getD}
 use borrow.Author.Tests.{eqb-true, eqb-false, eq-eqb, ne-eqb}
 use Rattle.word.proofs.Below.{same-at, agree-at}
-use Rattle.word.proofs.Truth.{never}
-use Rattle.insn.specs.Valid.{regOf}
+use Rattle.word.proofs.Truth.{never, and-true}
+use Rattle.insn.specs.Valid.{regOf, pairedWith, isVdr}
 use Rattle.insn.proofs.Round.{reg-lt}
-use Rattle.machine.specs.State.{placeOf, gprOf, contentsOf, registers, orderOf, same, holding, withGpr, with}
+use Rattle.machine.specs.State.{placeOf, gprOf, vdrOf, contentsOf, registers, orderOf, same, holding, withGpr, withVdr, with}
 use Rattle.machine.specs.declared.state.State.{State}
 use Rattle.machine.specs.declared.state.Reg.{Reg}
 
@@ -116,6 +116,30 @@ number-valid p h = agree-at (λ p q. regOf (getD numbers p 0)) (λ p q. true) 16
 -- two registers of the manual stand in two places, as `gpr-elsewhere` asks
 pub places-differ : (m n : ℕ) → regOf m ≡ true → regOf n ≡ true → (m ≡ n → ⊥) → placeOf m ≡ placeOf n → ⊥
 places-differ m n v w d e = d (sym (place-number m v) ∙ (ap (λ (p : ℕ). getD numbers p 0) e ∙ place-number n w))
+
+-- after VDR(n) was written
+pair-apart : (n : ℕ) → pairedWith n ≡ n → ⊥
+pair-apart n e = omega arith
+
+pub vdr-there : (s : State) (n v : ℕ) → length (s .gpr) ≡ 16 → isVdr n ≡ true → vdrOf (withVdr s n v) n ≡ v
+unfolding withVdr vdrOf
+vdr-there s n v l h =
+    let r = and-true (regOf n) (regOf (pairedWith n)) h in
+    let u = withGpr s n (v / 2 ^ 32) in
+    let low = gpr-there u (pairedWith n) (v % 2 ^ 32) (gpr-count s n (v / 2 ^ 32) ∙ l) in
+    let high = gpr-elsewhere u (pairedWith n) n (v % 2 ^ 32) (places-differ (pairedWith n) n (r .1) (r .0) (pair-apart n)) ∙ gpr-there s n (v / 2 ^ 32) l in
+    rw (high, low) (omega arith)
+
+pub vdr-elsewhere : (s : State) (n v m : ℕ) → isVdr n ≡ true → regOf m ≡ true → (n ≡ m → ⊥) → (pairedWith n ≡ m → ⊥) → gprOf (withVdr s n v) m ≡ gprOf s m
+unfolding withVdr
+vdr-elsewhere s n v m h w d e =
+    let r = and-true (regOf n) (regOf (pairedWith n)) h in
+    gpr-elsewhere (withGpr s n (v / 2 ^ 32)) (pairedWith n) m (v % 2 ^ 32) (places-differ (pairedWith n) m (r .1) w e)
+    ∙ gpr-elsewhere s n m (v / 2 ^ 32) (places-differ n m (r .0) w d)
+
+pub vdr-others : (s : State) (n v : ℕ) (r : Reg) → contentsOf (withVdr s n v) r ≡ contentsOf s r
+unfolding withVdr
+vdr-others s n v r = gpr-others (withGpr s n (v / 2 ^ 32)) (pairedWith n) (v % 2 ^ 32) r ∙ gpr-others s n (v / 2 ^ 32) r
 
 -- nothing else is in a state: the GPRs and these contents make it, and the registers' numbers reach every GPR
 pub state-is : (s t : State) → s .gpr ≡ t .gpr → ((r : Reg) → contentsOf s r ≡ contentsOf t r) → s ≡ t

@@ -7,12 +7,13 @@ use Rattle.word.specs.Sign.{exts}
 use Rattle.word.specs.Width.{bytes}
 use Rattle.word.specs.declared.width.Width.{Width}
 use Rattle.memory.specs.Access.{pick, accessOf, reachesPast}
-use Rattle.memory.specs.Load.{loadOf}
-use Rattle.memory.specs.Store.{storedOf}
+use Rattle.memory.specs.Load.{loadOf, loadDoubleOf}
+use Rattle.memory.specs.Store.{storedOf, storedDoubleOf}
 use Rattle.memory.specs.declared.access.Access.{Access}
 use Rattle.memory.specs.declared.load.Loaded.{Loaded}
+use Rattle.memory.specs.declared.load.LoadedDouble.{LoadedDouble}
 use Rattle.insn.specs.declared.instr.LoadStore.{LoadStore}
-use Rattle.machine.specs.State.{gprOf, baseOf, withGpr}
+use Rattle.machine.specs.State.{gprOf, baseOf, vdrOf, withGpr, withVdr}
 use Rattle.machine.specs.Interrupt.{interruptedOf}
 use Rattle.machine.specs.Result.{nextOf}
 use Rattle.machine.specs.After.{After}
@@ -37,12 +38,6 @@ loadedState s (Loaded.Value v) rt update ra ea = nextOf (withGpr (updatedOf s up
 loadedState s Loaded.Unaligned rt update ra ea = interruptedOf s (Cause.Alignment ea false)
 loadedState s Loaded.Outside rt update ra ea = interruptedOf s (Cause.DataStorage ea false)
 
--- what was loaded fell outside
-abbrev pub loadReaches : Loaded → Bool
-loadReaches (Loaded.Value v) = false
-loadReaches Loaded.Unaligned = false
-loadReaches Loaded.Outside = true
-
 unfoldable pub loadAt : State → List ℕ → Width → ℕ → ℕ → Bool → ℕ → After
 loadAt s m w rt ea update ra =
     record {
@@ -65,8 +60,33 @@ storeAt s m w rs ea update ra =
       past = reachesPast (accessOf (length m) ea (bytes w));
     }
 
+-- the doubleword in DT, or the interrupt: EA is computed first, so RA may be one of the two
+abbrev pub loadedDoubleState : State → LoadedDouble → ℕ → Bool → ℕ → ℕ → State
+loadedDoubleState s (LoadedDouble.Value v) dt update ra ea = nextOf (withVdr (updatedOf s update ra ea) dt v)
+loadedDoubleState s LoadedDouble.Unaligned dt update ra ea = interruptedOf s (Cause.Alignment ea false)
+loadedDoubleState s LoadedDouble.Outside dt update ra ea = interruptedOf s (Cause.DataStorage ea false)
+
+unfoldable pub loadDoubleAt : State → List ℕ → ℕ → ℕ → Bool → ℕ → After
+loadDoubleAt s m dt ea update ra =
+    record {
+      st = loadedDoubleState s (loadDoubleOf m ea) dt update ra ea;
+      mem = m;
+      past = reachesPast (accessOf (length m) ea 8);
+    }
+
+-- (DS), with RA as it was where that is one of the two
+unfoldable pub storeDoubleAt : State → List ℕ → ℕ → ℕ → Bool → ℕ → After
+storeDoubleAt s m ds ea update ra =
+    record {
+      st = storedState s (accessOf (length m) ea 8) update ra ea;
+      mem = storedDoubleOf m ea (vdrOf s ds);
+      past = reachesPast (accessOf (length m) ea 8);
+    }
+
 unfoldable pub loadStoreOf : State → List ℕ → LoadStore → After
 loadStoreOf s m (LoadStore.Load w update rt ra d) = loadAt s m w rt (offsetEa s ra d) update ra
 loadStoreOf s m (LoadStore.LoadIndexed w rt ra rb) = loadAt s m w rt (indexedEa s ra rb) false ra
 loadStoreOf s m (LoadStore.Store w update rs ra d) = storeAt s m w rs (offsetEa s ra d) update ra
 loadStoreOf s m (LoadStore.StoreIndexed w rs ra rb) = storeAt s m w rs (indexedEa s ra rb) false ra
+loadStoreOf s m (LoadStore.LoadDouble update dt ra d) = loadDoubleAt s m dt (offsetEa s ra d) update ra
+loadStoreOf s m (LoadStore.StoreDouble update ds ra d) = storeDoubleAt s m ds (offsetEa s ra d) update ra

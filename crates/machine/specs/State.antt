@@ -1,9 +1,10 @@
 -- The state of a core: sixteen GPRs, the eighteen other registers (8.3, 8.5, 8.6), IAR and the halt code; and each register written alone.
-use Prim.Native.Nat.{ℕ, _%_}
+use Prim.Native.Nat.{ℕ, _+_, _*_, _/_, _%_, _^_}
 use mathlib.Core.Bool.{Bool, cond}
 use mathlib.Core.List.{List, [], _∷_}
 use lib.Dec.{eqb}
 use lib.ListN.{getD, set}
+use Rattle.insn.specs.Valid.{pairedWith}
 use Rattle.machine.specs.declared.state.State.{State}
 use Rattle.machine.specs.declared.state.Reg.{Reg}
 
@@ -18,6 +19,10 @@ gprOf s n = getD (s .gpr) (placeOf n) 0
 -- (RA|0) of 1.2: the contents of RA, or 0 if RA is 0
 unfoldable pub baseOf : State → ℕ → ℕ
 baseOf s n = cond (eqb n 0) 0 (gprOf s n)
+
+-- (VDR(n)) of 1.2: GPR(n) has the high-order word, the GPR that it is paired with the low-order one (8.4)
+unfoldable pub vdrOf : State → ℕ → ℕ
+vdrOf s n = gprOf s n * 2 ^ 32 + gprOf s (pairedWith n)
 
 -- the contents of any other register, of IAR and of the halt code
 abbrev pub contentsOf : State → Reg → ℕ
@@ -105,6 +110,10 @@ holding g c =
 -- GPR(n) written, and nothing else
 unfoldable pub withGpr : State → ℕ → ℕ → State
 withGpr s n v = holding (set (s .gpr) (placeOf n) v) (contentsOf s)
+
+-- VDR(n) written: its two GPRs, and nothing else
+unfoldable pub withVdr : State → ℕ → ℕ → State
+withVdr s n v = withGpr (withGpr s n (v / 2 ^ 32)) (pairedWith n) (v % 2 ^ 32)
 
 -- one of the others written, and nothing else
 unfoldable pub with : State → Reg → ℕ → State

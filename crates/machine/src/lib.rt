@@ -14,4 +14,3 @@ pub mod branch; // branch.rt: branches
 pub mod cache; // cache.rt: dcbz
 pub mod system; // system.rt: traps, special registers, rfi
 pub mod step; // step.rt: the six lines
-pub mod marked; // marked.rt: the step that marks a reach past its memory

@@ -1,11 +1,12 @@
 // Loads and stores. An access that is not served changes nothing but what its interrupt sets.
 ghost use mathlib.Core.Path.{_≡_};
-ghost use Rattle.machine.specs.LoadStore.{offsetEa, indexedEa, updatedOf, loadedState, storedState, loadStoreOf};
+ghost use Rattle.machine.specs.LoadStore.{offsetEa, indexedEa, updatedOf, loadedState, storedState, loadedDoubleState, loadDoubleAt, storeDoubleAt, loadStoreOf};
 use crate::state::State;
 use insn::instr::LoadStore;
 use memory::access::Access;
 use memory::load;
 use memory::load::Loaded;
+use memory::load::LoadedDouble;
 use memory::store;
 use word::sign::extend_half;
 use word::sum::plus;
@@ -51,6 +52,32 @@ impl State {
         }
     }
 
+    // The doubleword in DT, or the interrupt.
+    fn loaded_double(self, got: LoadedDouble, dt: u8, update: bool, ra: u8, ea: u32) -> State
+        ensures { λ r. ⌜ r ≡ loadedDoubleState self got dt update ra ea ⌝ }
+    {
+        match got {
+            LoadedDouble::Value(v) => self.update(update, ra, ea).set_vdr(dt, v).next(),
+            LoadedDouble::Unaligned => self.alignment(ea, false),
+            LoadedDouble::Outside => self.data_storage(ea, false),
+        }
+    }
+
+    pub fn load_double(self, mem: &[u8], update: bool, dt: u8, ra: u8, d: u16) -> State
+        ensures { λ r. ⌜ r ≡ loadDoubleAt self (now (mem .entry)) dt (offsetEa self ra d) update ra .st ⌝ }
+    {
+        let ea = self.offset_ea(ra, d);
+        self.loaded_double(load::load_double(mem, ea), dt, update, ra, ea)
+    }
+
+    pub fn store_double(self, mem: &mut [u8], update: bool, ds: u8, ra: u8, d: u16) -> State
+        ensures { λ r. ⌜ (r ≡ storeDoubleAt self (now (mem .entry)) ds (offsetEa self ra d) update ra .st) × (now (mem .exit) ≡ storeDoubleAt self (now (mem .entry)) ds (offsetEa self ra d) update ra .mem) ⌝ }
+    {
+        let ea = self.offset_ea(ra, d);
+        let done = store::store_double(mem, ea, self.vdr(ds));
+        self.stored(done, update, ra, ea)
+    }
+
     pub fn load_store(self, mem: &mut [u8], i: LoadStore) -> State
         ensures { λ r. ⌜ (r ≡ loadStoreOf self (now (mem .entry)) i .st) × (now (mem .exit) ≡ loadStoreOf self (now (mem .entry)) i .mem) ⌝ }
     {
@@ -84,6 +111,12 @@ impl State {
                 let ea = self.indexed_ea(ra, rb);
                 let done = store::store(mem, ea, width, self.reg(rs));
                 self.stored(done, false, ra, ea)
+            }
+            LoadStore::LoadDouble { update, dt, ra, d } => {
+                self.load_double(&mem[..], update, dt, ra, d)
+            }
+            LoadStore::StoreDouble { update, ds, ra, d } => {
+                self.store_double(mem, update, ds, ra, d)
             }
         }
     }

@@ -2,7 +2,8 @@
 ghost use mathlib.Core.Path.{_≡_};
 ghost use Prim.Native.Nat.{_<_};
 ghost use lib.ListN.{set};
-ghost use Rattle.machine.specs.State.{placeOf, gprOf, baseOf, withGpr, with};
+ghost use Rattle.machine.specs.State.{placeOf, gprOf, baseOf, vdrOf, withGpr, withVdr, with};
+use insn::valid::paired_with;
 use word::shift::select;
 
 pub struct State {
@@ -111,6 +112,14 @@ impl State {
         if n == 0 { 0 } else { self.reg(n) }
     }
 
+    // The contents of a virtual doubleword register.
+    pub fn vdr(self, n: u8) -> u64
+        ensures { λ r. ⌜ r ≡ vdrOf self n ⌝ }
+    {
+        let words = self.pair(n, paired_with(n));
+        words.a as u64 * 0x1_0000_0000 + words.b as u64
+    }
+
     pub fn set_reg(mut self, n: u8, v: u32) -> State
         ensures { λ r. ⌜ r ≡ withGpr self n v ⌝ }
     {
@@ -119,6 +128,14 @@ impl State {
         let all = replaced(gpr, at, v);
         self.gpr = all;
         self
+    }
+
+    pub fn set_vdr(self, n: u8, v: u64) -> State
+        ensures { λ r. ⌜ r ≡ withVdr self n v ⌝ }
+    {
+        let high = (v / 0x1_0000_0000) as u32;
+        let low = (v % 0x1_0000_0000) as u32;
+        self.set_reg(n, high).set_reg(paired_with(n), low)
     }
 
     pub fn set(mut self, r: Reg, v: u32) -> State

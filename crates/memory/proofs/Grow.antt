@@ -12,8 +12,8 @@ use Rattle.word.specs.declared.width.Width.{Width}
 use Rattle.memory.specs.declared.access.Access.{Access}
 use Rattle.word.specs.Width.{bytes}
 use Rattle.memory.specs.Access.{pick, accessOf, reachesPast}
-use Rattle.memory.specs.Load.{valueAt, loaded, loadOf, fetchOf}
-use Rattle.memory.specs.Store.{bytesOf, written, storedOf, blockAt, clearedOf}
+use Rattle.memory.specs.Load.{valueAt, doubleAt, loaded, loadOf, loadedDouble, loadDoubleOf, fetchOf}
+use Rattle.memory.specs.Store.{bytesOf, doubleBytes, written, storedOf, storedDoubleOf, blockAt, clearedOf}
 use Rattle.word.proofs.Truth.{never}
 use Rattle.memory.proofs.Laws.{served-inside}
 
@@ -48,6 +48,19 @@ pub load-grow : (m x : List ℕ) (a : ℕ) (w : Width) → reachesPast (accessOf
 unfolding loadOf
 load-grow m x a w h = rw (access-grow m x a (bytes w) h) (loaded-grow w m x a (accessOf (length m) a (bytes w)) refl)
 
+double-grow : (m x : List ℕ) (a : ℕ) → a + 8 ≤ length m → doubleAt (m ++ x) a ≡ doubleAt m a
+unfolding doubleAt
+double-grow m x a h = rw (value-grow Width.Word m x a (omega arith), value-grow Width.Word m x (a + 4) (omega arith))
+
+loaded-double-grow : (m x : List ℕ) (a : ℕ) (k : Access) → accessOf (length m) a 8 ≡ k → loadedDouble k (doubleAt (m ++ x) a) ≡ loadedDouble k (doubleAt m a)
+loaded-double-grow m x a Access.Served e = rw (double-grow m x a (served-inside (length m) a 8 e))
+loaded-double-grow m x a Access.Unaligned e = refl
+loaded-double-grow m x a Access.Outside e = refl
+
+pub load-double-grow : (m x : List ℕ) (a : ℕ) → reachesPast (accessOf (length m) a 8) ≡ false → loadDoubleOf (m ++ x) a ≡ loadDoubleOf m a
+unfolding loadDoubleOf
+load-double-grow m x a h = rw (access-grow m x a 8 h) (loaded-double-grow m x a (accessOf (length m) a 8) refl)
+
 pub fetch-grow : (m x : List ℕ) (a : ℕ) → reachesPast (accessOf (length m) a 4) ≡ false → fetchOf (m ++ x) a ≡ fetchOf m a
 unfolding fetchOf
 fetch-grow m x a h = load-grow m x a Width.Word h
@@ -75,6 +88,16 @@ store-grow m x a w v h =
     rw (access-grow m x a (bytes w) h)
     (written-grow m x a (bytesOf w v) (accessOf (length m) a (bytes w)) (ap (accessOf (length m) a) (bytes-length w v)))
 
+pub double-length : (v : ℕ) → length (doubleBytes v) ≡ 8
+unfolding bytesOf
+double-length v = refl
+
+pub store-double-grow : (m x : List ℕ) (a v : ℕ) → reachesPast (accessOf (length m) a 8) ≡ false → storedDoubleOf (m ++ x) a v ≡ storedDoubleOf m a v ++ x
+unfolding storedDoubleOf
+store-double-grow m x a v h =
+    rw (access-grow m x a 8 h)
+    (written-grow m x a (doubleBytes v) (accessOf (length m) a 8) (ap (accessOf (length m) a) (double-length v)))
+
 pub clear-grow : (m x : List ℕ) (a : ℕ) → reachesPast (accessOf (length m) (blockAt a) 32) ≡ false → clearedOf (m ++ x) a ≡ clearedOf m a ++ x
 unfolding clearedOf
 clear-grow m x a h =
@@ -90,6 +113,10 @@ written-length Access.Outside m a bs = refl
 pub stored-length : (m : List ℕ) (a : ℕ) (w : Width) (v : ℕ) → length (storedOf m a w v) ≡ length m
 unfolding storedOf
 stored-length m a w v = written-length (accessOf (length m) a (bytes w)) m a (bytesOf w v)
+
+pub stored-double-length : (m : List ℕ) (a v : ℕ) → length (storedDoubleOf m a v) ≡ length m
+unfolding storedDoubleOf
+stored-double-length m a v = written-length (accessOf (length m) a 8) m a (doubleBytes v)
 
 pub cleared-length : (m : List ℕ) (a : ℕ) → length (clearedOf m a) ≡ length m
 unfolding clearedOf

@@ -3,14 +3,21 @@ ghost use mathlib.Core.Path.{_≡_};
 ghost use Prim.Native.Nat.{_+_, _*_, _^_, _≤_};
 ghost use lib.ListN.{length};
 ghost use Rattle.word.specs.Width.{bytes};
-ghost use Rattle.memory.specs.Load.{valueAt, loadOf, fetchOf};
+ghost use Rattle.memory.specs.Load.{valueAt, doubleAt, loadOf, loadDoubleOf, fetchOf};
 ghost use Rattle.word.specs.declared.width.Width.{Width};
 use crate::access::Access;
 use crate::access::access_at;
+use crate::access::double_access;
 use word::width::Width;
 
 pub enum Loaded {
     Value(u32),
+    Unaligned,
+    Outside,
+}
+
+pub enum LoadedDouble {
+    Value(u64),
     Unaligned,
     Outside,
 }
@@ -59,6 +66,14 @@ fn value_at(mem: &[u8], at: usize, width: Width) -> u32
     }
 }
 
+// The word at the address is the high-order one.
+fn double_at(mem: &[u8], at: usize) -> u64
+    requires { ⌜ at + 8 ≤ length (now mem) ⌝ }
+    ensures { λ r. ⌜ r ≡ doubleAt (now (mem .entry)) at ⌝ }
+{
+    word_at(mem, at) as u64 * 0x1_0000_0000 + word_at(mem, at + 4) as u64
+}
+
 pub fn load(mem: &[u8], address: u32, width: Width) -> Loaded
     ensures { λ r. ⌜ r ≡ loadOf (now (mem .entry)) address width ⌝ }
 {
@@ -66,6 +81,16 @@ pub fn load(mem: &[u8], address: u32, width: Width) -> Loaded
         Access::Served => Loaded::Value(value_at(mem, address as usize, width)),
         Access::Unaligned => Loaded::Unaligned,
         Access::Outside => Loaded::Outside,
+    }
+}
+
+pub fn load_double(mem: &[u8], address: u32) -> LoadedDouble
+    ensures { λ r. ⌜ r ≡ loadDoubleOf (now (mem .entry)) address ⌝ }
+{
+    match double_access(mem.len(), address) {
+        Access::Served => LoadedDouble::Value(double_at(mem, address as usize)),
+        Access::Unaligned => LoadedDouble::Unaligned,
+        Access::Outside => LoadedDouble::Outside,
     }
 }
 

@@ -5,11 +5,12 @@ ghost use lib.ListN.{length, replicate};
 ghost use lib.Seq.{sets};
 ghost use Rattle.word.specs.Width.{bytes};
 ghost use Rattle.memory.specs.Access.{accessOf};
-ghost use Rattle.memory.specs.Store.{bytesOf, storedOf, blockAt, clearedOf};
+ghost use Rattle.memory.specs.Store.{bytesOf, doubleBytes, storedOf, storedDoubleOf, blockAt, clearedOf};
 ghost use Rattle.word.specs.declared.width.Width.{Width};
 use crate::access::Access;
 use crate::access::access_at;
 use crate::access::block_access;
+use crate::access::double_access;
 use word::width::Width;
 
 fn put_byte(mem: &mut [u8], at: usize, v: u32)
@@ -48,6 +49,15 @@ fn put(mem: &mut [u8], at: usize, width: Width, v: u32)
     }
 }
 
+// The high-order word comes first.
+fn put_double(mem: &mut [u8], at: usize, v: u64)
+    requires { ⌜ at + 8 ≤ length (now mem) ⌝ }
+    ensures { λ _. ⌜ now (mem .exit) ≡ sets (now (mem .entry)) at (doubleBytes v) ⌝ }
+{
+    put_word(mem, at, (v / 0x1_0000_0000) as u32);
+    put_word(mem, at + 4, (v % 0x1_0000_0000) as u32);
+}
+
 // Stores the value's last bytes, or nothing where the access is not served.
 pub fn store(mem: &mut [u8], address: u32, width: Width, v: u32) -> Access
     ensures { λ r. ⌜ (r ≡ accessOf (length (now (mem .entry))) address (bytes width)) × (now (mem .exit) ≡ storedOf (now (mem .entry)) address width v) ⌝ }
@@ -56,6 +66,21 @@ pub fn store(mem: &mut [u8], address: u32, width: Width, v: u32) -> Access
     match answer {
         Access::Served => {
             put(mem, address as usize, width, v);
+            Access::Served
+        }
+        Access::Unaligned => Access::Unaligned,
+        Access::Outside => Access::Outside,
+    }
+}
+
+// Stores the eight bytes of a doubleword, or nothing where the access is not served.
+pub fn store_double(mem: &mut [u8], address: u32, v: u64) -> Access
+    ensures { λ r. ⌜ (r ≡ accessOf (length (now (mem .entry))) address 8) × (now (mem .exit) ≡ storedDoubleOf (now (mem .entry)) address v) ⌝ }
+{
+    let answer = double_access(mem.len(), address);
+    match answer {
+        Access::Served => {
+            put_double(mem, address as usize, v);
             Access::Served
         }
         Access::Unaligned => Access::Unaligned,

@@ -9,20 +9,20 @@ use Rattle.word.specs.Bits.{bitAt}
 use Rattle.word.specs.Width.{bytes}
 use Rattle.word.specs.declared.width.Width.{Width}
 use Rattle.memory.specs.Access.{accessOf, sizedOf}
-use Rattle.memory.specs.Load.{loadOf, fetchOf}
+use Rattle.memory.specs.Load.{loadOf, loadDoubleOf, fetchOf}
 use Rattle.memory.specs.Store.{blockAt}
 use Rattle.memory.specs.declared.load.Loaded.{Loaded}
-use Rattle.memory.proofs.Grow.{stored-length, cleared-length}
+use Rattle.memory.proofs.Grow.{stored-length, stored-double-length, cleared-length}
 use Rattle.insn.specs.Read.{decodeOf}
 use Rattle.insn.specs.declared.instr.Instr.{Instr}
 use Rattle.insn.specs.declared.instr.Decoded.{Decoded}
 use Rattle.insn.specs.declared.instr.LoadStore.{LoadStore}
 use Rattle.insn.specs.declared.instr.CacheOp.{CacheOp}
-use Rattle.machine.specs.State.{gprOf}
+use Rattle.machine.specs.State.{gprOf, vdrOf}
 use Rattle.machine.specs.Refusal.{unless, orElse}
 use Rattle.machine.specs.Register.{refusalOf, startRefusal}
 use Rattle.machine.specs.After.{After}
-use Rattle.machine.specs.LoadStore.{loadAt, storeAt, loadStoreOf}
+use Rattle.machine.specs.LoadStore.{loadAt, storeAt, loadDoubleAt, storeDoubleAt, loadStoreOf}
 use Rattle.machine.specs.Cache.{clearAt, cacheOf}
 use Rattle.machine.specs.Timer.{tickedOf, actsOf}
 use Rattle.machine.specs.Step.{executeOf, decodedOf, fetchedOf, runningOf, awakeOf, highestOf, interruptibleOf, countedOf, stepOf}
@@ -32,7 +32,7 @@ use Rattle.machine.specs.declared.step.Pending.{Pending}
 use Rattle.machine.specs.declared.refusal.Refusal.{Refusal}
 use Rattle.run.specs.Run.{Ran, runOf}
 use Rattle.run.specs.Outcome.{runRefusal}
-use Rattle.promises.proofs.Sound.{Sound, picked, accepted-sound, sound-accepted, next-sound, entered-sound, interrupted-sound, ticked-sound, acted-sound, arithmetic-sound, logical-sound, compare-sound, rotate-sound, branch-sound, trap-sound, system-sound, loaded-sound, stored-sound, cleared-sound}
+use Rattle.promises.proofs.Sound.{Sound, picked, accepted-sound, sound-accepted, next-sound, entered-sound, interrupted-sound, ticked-sound, acted-sound, arithmetic-sound, logical-sound, compare-sound, rotate-sound, branch-sound, trap-sound, system-sound, loaded-sound, loaded-double-sound, stored-sound, cleared-sound}
 
 -- from a state and a memory to others: a sound state stays sound, and the memory keeps its length
 pub record Kept (s : State) (m : List ℕ) (t : State) (x : List ℕ) : Type 0 where
@@ -59,6 +59,15 @@ module _ (s : State) (m : List ℕ) where
   store-left w rs ea update ra =
       record { st = λ k. stored-sound k (accessOf (length m) ea (bytes w)) update ra ea; mem = stored-length m ea w (gprOf s rs) }
 
+  load-double-left : (dt ea : ℕ) (update : Bool) (ra : ℕ) → Left s m (loadDoubleAt s m dt ea update ra)
+  unfolding loadDoubleAt
+  load-double-left dt ea update ra = untouched (λ k. loaded-double-sound k (loadDoubleOf m ea) dt update ra ea)
+
+  store-double-left : (ds ea : ℕ) (update : Bool) (ra : ℕ) → Left s m (storeDoubleAt s m ds ea update ra)
+  unfolding storeDoubleAt
+  store-double-left ds ea update ra =
+      record { st = λ k. stored-sound k (accessOf (length m) ea 8) update ra ea; mem = stored-double-length m ea (vdrOf s ds) }
+
   clear-left : (ea : ℕ) → Left s m (clearAt s m ea)
   unfolding clearAt
   clear-left ea = record { st = λ k. cleared-sound k (accessOf (length m) (blockAt ea) 32) ea; mem = cleared-length m ea }
@@ -69,6 +78,8 @@ module _ (s : State) (m : List ℕ) where
   load-store-left (LoadStore.LoadIndexed w rt ra rb) = load-left w rt _ false ra
   load-store-left (LoadStore.Store w update rs ra d) = store-left w rs _ update ra
   load-store-left (LoadStore.StoreIndexed w rs ra rb) = store-left w rs _ false ra
+  load-store-left (LoadStore.LoadDouble update dt ra d) = load-double-left dt _ update ra
+  load-store-left (LoadStore.StoreDouble update ds ra d) = store-double-left ds _ update ra
 
   cache-left : (op : CacheOp) (ra rb : ℕ) → Left s m (cacheOf s m op ra rb)
   unfolding cacheOf

@@ -10,8 +10,8 @@ use borrow.Author.Tests.{eq-eqb}
 use Rattle.word.specs.Bits.{bitAt}
 use Rattle.word.specs.Width.{bytes}
 use Rattle.memory.specs.Access.{pick, accessOf}
-use Rattle.memory.specs.Load.{loadOf, fetchOf}
-use Rattle.memory.specs.Store.{blockAt, bytesOf, written, storedOf, clearedOf}
+use Rattle.memory.specs.Load.{loaded, loadOf, loadedDouble, loadDoubleOf, fetchOf}
+use Rattle.memory.specs.Store.{blockAt, bytesOf, doubleBytes, written, storedOf, storedDoubleOf, clearedOf}
 use Rattle.memory.specs.declared.access.Access.{Access}
 use Rattle.memory.specs.declared.load.Loaded.{Loaded}
 use Rattle.insn.specs.Read.{decodeOf}
@@ -19,9 +19,9 @@ use Rattle.insn.specs.declared.instr.Instr.{Instr}
 use Rattle.insn.specs.declared.instr.Decoded.{Decoded}
 use Rattle.insn.specs.declared.instr.LoadStore.{LoadStore}
 use Rattle.insn.specs.declared.instr.CacheOp.{CacheOp}
-use Rattle.machine.specs.State.{gprOf, with}
+use Rattle.machine.specs.State.{gprOf, vdrOf, with}
 use Rattle.machine.specs.Interrupt.{enteredOf, accessNoted, programNoted, notedOf, promotedOf, haltedOf, takenFor, interruptedOf, vectorFor}
-use Rattle.machine.specs.LoadStore.{offsetEa, indexedEa, loadedState, storedState, loadAt, storeAt, loadStoreOf}
+use Rattle.machine.specs.LoadStore.{offsetEa, indexedEa, loadedState, storedState, loadAt, storeAt, loadedDoubleState, loadDoubleAt, storeDoubleAt, loadStoreOf}
 use Rattle.machine.specs.Cache.{clearedState, clearAt, cacheOf}
 use Rattle.machine.specs.System.{trapOf}
 use Rattle.machine.specs.Timer.{tickedOf, actsOf}
@@ -31,7 +31,7 @@ use Rattle.machine.specs.declared.interrupt.Cause.{Cause}
 use Rattle.machine.specs.declared.interrupt.Vector.{Vector}
 use Rattle.machine.specs.declared.interrupt.Halt.{Halt}
 use Rattle.machine.specs.declared.step.Pending.{Pending}
-use Rattle.tell.specs.Fault.{loadRaises, storeRaises, loadStoreRaises, cacheRaises, executeRaises, decodedRaises, fetchedRaises, raisedOf}
+use Rattle.tell.specs.Fault.{accessRaises, loadStoreRaises, cacheRaises, executeRaises, decodedRaises, fetchedRaises, raisedOf}
 use Rattle.tell.specs.declared.fault.Raised.{Raised}
 use Rattle.promises.specs.Fault.{faulted, OnlyInterrupt}
 
@@ -40,31 +40,42 @@ module _ (s : State) (m : List ℕ) (c : Cause) where
   quiet : {A : Type 0} → Raised.Nothing ≡ Raised.Raises c → A
   quiet e = let z : _≡_ {A = ℕ} 0 1 = cc in absurd (omega arith)
 
-  load-faults : (l : Loaded) (rt : ℕ) (u : Bool) (ra ea : ℕ) → loadRaises l ea ≡ Raised.Raises c → loadedState s l rt u ra ea ≡ interruptedOf s c
-  load-faults (Loaded.Value v) rt u ra ea e = quiet e
-  load-faults Loaded.Unaligned rt u ra ea e = let d : Cause.Alignment ea false ≡ c = cc in ap (interruptedOf s) d
-  load-faults Loaded.Outside rt u ra ea e = let d : Cause.DataStorage ea false ≡ c = cc in ap (interruptedOf s) d
+  load-faults : (k : Access) (v rt : ℕ) (u : Bool) (ra ea : ℕ) → accessRaises k ea false ≡ Raised.Raises c → loadedState s (loaded k v) rt u ra ea ≡ interruptedOf s c
+  load-faults Access.Served v rt u ra ea e = quiet e
+  load-faults Access.Unaligned v rt u ra ea e = let d : Cause.Alignment ea false ≡ c = cc in ap (interruptedOf s) d
+  load-faults Access.Outside v rt u ra ea e = let d : Cause.DataStorage ea false ≡ c = cc in ap (interruptedOf s) d
 
-  store-faults : (k : Access) (u : Bool) (ra ea a : ℕ) (bs : List ℕ) → storeRaises k ea ≡ Raised.Raises c
+  load-double-faults : (k : Access) (v dt : ℕ) (u : Bool) (ra ea : ℕ) → accessRaises k ea false ≡ Raised.Raises c → loadedDoubleState s (loadedDouble k v) dt u ra ea ≡ interruptedOf s c
+  load-double-faults Access.Served v dt u ra ea e = quiet e
+  load-double-faults Access.Unaligned v dt u ra ea e = let d : Cause.Alignment ea false ≡ c = cc in ap (interruptedOf s) d
+  load-double-faults Access.Outside v dt u ra ea e = let d : Cause.DataStorage ea false ≡ c = cc in ap (interruptedOf s) d
+
+  store-faults : (k : Access) (u : Bool) (ra ea a : ℕ) (bs : List ℕ) → accessRaises k ea true ≡ Raised.Raises c
       → (storedState s k u ra ea ≡ interruptedOf s c) × (written k m a bs ≡ m)
   store-faults Access.Served u ra ea a bs e = quiet e
   store-faults Access.Unaligned u ra ea a bs e = let d : Cause.Alignment ea true ≡ c = cc in (ap (interruptedOf s) d, refl)
   store-faults Access.Outside u ra ea a bs e = let d : Cause.DataStorage ea true ≡ c = cc in (ap (interruptedOf s) d, refl)
 
-  clear-faults : (k : Access) (ea a : ℕ) (bs : List ℕ) → storeRaises k ea ≡ Raised.Raises c
+  clear-faults : (k : Access) (ea a : ℕ) (bs : List ℕ) → accessRaises k ea true ≡ Raised.Raises c
       → (clearedState s k ea ≡ interruptedOf s c) × (written k m a bs ≡ m)
   clear-faults Access.Served ea a bs e = quiet e
   clear-faults Access.Unaligned ea a bs e = let d : Cause.Alignment ea true ≡ c = cc in (ap (interruptedOf s) d, refl)
   clear-faults Access.Outside ea a bs e = let d : Cause.DataStorage ea true ≡ c = cc in (ap (interruptedOf s) d, refl)
 
   load-store-faults : (i : LoadStore) → loadStoreRaises s m i ≡ Raised.Raises c → faulted s m c (loadStoreOf s m i)
-  unfolding loadStoreOf loadAt storeAt storedOf
-  load-store-faults (LoadStore.Load w u rt ra d) e = (load-faults (loadOf m (offsetEa s ra d) w) rt u ra (offsetEa s ra d) e, refl)
-  load-store-faults (LoadStore.LoadIndexed w rt ra rb) e = (load-faults (loadOf m (indexedEa s ra rb) w) rt false ra (indexedEa s ra rb) e, refl)
+  unfolding loadStoreOf loadAt storeAt loadDoubleAt storeDoubleAt loadOf storedOf loadDoubleOf storedDoubleOf
+  load-store-faults (LoadStore.Load w u rt ra d) e =
+      (load-faults (accessOf (length m) (offsetEa s ra d) (bytes w)) _ rt u ra (offsetEa s ra d) e, refl)
+  load-store-faults (LoadStore.LoadIndexed w rt ra rb) e =
+      (load-faults (accessOf (length m) (indexedEa s ra rb) (bytes w)) _ rt false ra (indexedEa s ra rb) e, refl)
   load-store-faults (LoadStore.Store w u rs ra d) e =
       store-faults (accessOf (length m) (offsetEa s ra d) (bytes w)) u ra (offsetEa s ra d) (offsetEa s ra d) (bytesOf w (gprOf s rs)) e
   load-store-faults (LoadStore.StoreIndexed w rs ra rb) e =
       store-faults (accessOf (length m) (indexedEa s ra rb) (bytes w)) false ra (indexedEa s ra rb) (indexedEa s ra rb) (bytesOf w (gprOf s rs)) e
+  load-store-faults (LoadStore.LoadDouble u dt ra d) e =
+      (load-double-faults (accessOf (length m) (offsetEa s ra d) 8) _ dt u ra (offsetEa s ra d) e, refl)
+  load-store-faults (LoadStore.StoreDouble u ds ra d) e =
+      store-faults (accessOf (length m) (offsetEa s ra d) 8) u ra (offsetEa s ra d) (offsetEa s ra d) (doubleBytes (vdrOf s ds)) e
 
   cache-faults : (op : CacheOp) (ra rb : ℕ) → cacheRaises s m op ra rb ≡ Raised.Raises c → faulted s m c (cacheOf s m op ra rb)
   unfolding cacheOf clearAt clearedOf

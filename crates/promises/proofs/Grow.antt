@@ -16,15 +16,15 @@ use Rattle.memory.specs.Store.{blockAt}
 use Rattle.memory.specs.declared.access.Access.{Access}
 use Rattle.memory.specs.declared.load.Loaded.{Loaded}
 use Rattle.word.proofs.Truth.{never}
-use Rattle.memory.proofs.Grow.{access-grow, load-grow, fetch-grow, store-grow, clear-grow}
+use Rattle.memory.proofs.Grow.{access-grow, load-grow, load-double-grow, fetch-grow, store-grow, store-double-grow, clear-grow}
 use Rattle.insn.specs.Read.{decodeOf}
 use Rattle.insn.specs.declared.instr.Instr.{Instr}
 use Rattle.insn.specs.declared.instr.Decoded.{Decoded}
 use Rattle.insn.specs.declared.instr.LoadStore.{LoadStore}
 use Rattle.insn.specs.declared.instr.CacheOp.{CacheOp}
-use Rattle.machine.specs.State.{gprOf}
+use Rattle.machine.specs.State.{gprOf, vdrOf}
 use Rattle.machine.specs.After.{After, plain}
-use Rattle.machine.specs.LoadStore.{offsetEa, indexedEa, loadAt, storeAt, loadStoreOf}
+use Rattle.machine.specs.LoadStore.{offsetEa, indexedEa, loadAt, storeAt, loadDoubleAt, storeDoubleAt, loadStoreOf}
 use Rattle.machine.specs.Cache.{clearAt, cacheOf}
 use Rattle.machine.specs.Timer.{tickedOf, actsOf, actedOf}
 use Rattle.machine.specs.Step.{executeOf, decodedOf, fetchedOf, runningOf, awakeOf, highestOf, interruptibleOf, countedOf, stepOf}
@@ -45,6 +45,16 @@ module _ (s : State) (m x : List ℕ) where
   unfolding storeAt
   store-at-grow w rs ea u ra h = rw (store-grow m x ea w (gprOf s rs) h, access-grow m x ea (bytes w) h)
 
+  load-double-at-grow : (dt ea : ℕ) (u : Bool) (ra : ℕ) → loadDoubleAt s m dt ea u ra .past ≡ false
+      → loadDoubleAt s (m ++ x) dt ea u ra ≡ grown x (loadDoubleAt s m dt ea u ra)
+  unfolding loadDoubleAt
+  load-double-at-grow dt ea u ra h = rw (load-double-grow m x ea h, access-grow m x ea 8 h)
+
+  store-double-at-grow : (ds ea : ℕ) (u : Bool) (ra : ℕ) → storeDoubleAt s m ds ea u ra .past ≡ false
+      → storeDoubleAt s (m ++ x) ds ea u ra ≡ grown x (storeDoubleAt s m ds ea u ra)
+  unfolding storeDoubleAt
+  store-double-at-grow ds ea u ra h = rw (store-double-grow m x ea (vdrOf s ds) h, access-grow m x ea 8 h)
+
   clear-at-grow : (ea : ℕ) → clearAt s m ea .past ≡ false → clearAt s (m ++ x) ea ≡ grown x (clearAt s m ea)
   unfolding clearAt
   clear-at-grow ea h = rw (clear-grow m x ea h, access-grow m x (blockAt ea) 32 h)
@@ -55,6 +65,8 @@ module _ (s : State) (m x : List ℕ) where
   load-store-grow (LoadStore.LoadIndexed w rt ra rb) h = load-at-grow w rt (indexedEa s ra rb) false ra h
   load-store-grow (LoadStore.Store w u rs ra d) h = store-at-grow w rs (offsetEa s ra d) u ra h
   load-store-grow (LoadStore.StoreIndexed w rs ra rb) h = store-at-grow w rs (indexedEa s ra rb) false ra h
+  load-store-grow (LoadStore.LoadDouble u dt ra d) h = load-double-at-grow dt (offsetEa s ra d) u ra h
+  load-store-grow (LoadStore.StoreDouble u ds ra d) h = store-double-at-grow ds (offsetEa s ra d) u ra h
 
   cache-grow : (op : CacheOp) (ra rb : ℕ) → cacheOf s m op ra rb .past ≡ false → cacheOf s (m ++ x) op ra rb ≡ grown x (cacheOf s m op ra rb)
   unfolding cacheOf

@@ -1,7 +1,7 @@
 -- Demand 1: every byte that a step reads or writes lies inside the lent memory, it changes no other byte, and no other byte decides what it leaves and writes. Assumes nothing.
 use Prim.Native.Nat.{ℕ, suc, _+_, _<_, _≤_}
 use native.Mathlib.Omega.{arith}
-use native.Mathlib.Nat.{add-zero}
+use native.Mathlib.Nat.{add-zero, add-assoc}
 use mathlib.Core.Bool.{Bool, true, false, not, _&&_}
 use mathlib.Core.Path.{_≡_, refl, ap, sym, _∙_}
 use mathlib.Core.List.{List, [], _∷_, _++_, append-assoc}
@@ -13,21 +13,21 @@ use Rattle.word.specs.Bits.{bitAt}
 use Rattle.word.specs.Width.{bytes}
 use Rattle.word.specs.declared.width.Width.{Width}
 use Rattle.memory.specs.Access.{pick, accessOf}
-use Rattle.memory.specs.Load.{valueAt, loaded, loadOf, fetchOf}
-use Rattle.memory.specs.Store.{bytesOf, written, storedOf, blockAt, clearedOf}
+use Rattle.memory.specs.Load.{valueAt, doubleAt, loaded, loadOf, loadedDouble, loadDoubleOf, fetchOf}
+use Rattle.memory.specs.Store.{bytesOf, doubleBytes, written, storedOf, storedDoubleOf, blockAt, clearedOf}
 use Rattle.memory.specs.declared.access.Access.{Access}
 use Rattle.memory.specs.declared.load.Loaded.{Loaded}
 use Rattle.word.proofs.Truth.{never}
 use Rattle.memory.proofs.Laws.{served-inside}
-use Rattle.memory.proofs.Grow.{bytes-length}
+use Rattle.memory.proofs.Grow.{bytes-length, double-length}
 use Rattle.insn.specs.Read.{decodeOf}
 use Rattle.insn.specs.declared.instr.Instr.{Instr}
 use Rattle.insn.specs.declared.instr.Decoded.{Decoded}
 use Rattle.insn.specs.declared.instr.LoadStore.{LoadStore}
 use Rattle.insn.specs.declared.instr.CacheOp.{CacheOp}
-use Rattle.machine.specs.State.{gprOf}
+use Rattle.machine.specs.State.{gprOf, vdrOf}
 use Rattle.machine.specs.After.{After, plain}
-use Rattle.machine.specs.LoadStore.{offsetEa, indexedEa, loadAt, storeAt, loadStoreOf}
+use Rattle.machine.specs.LoadStore.{offsetEa, indexedEa, loadAt, storeAt, loadDoubleAt, storeDoubleAt, loadStoreOf}
 use Rattle.machine.specs.Cache.{clearAt, cacheOf}
 use Rattle.machine.specs.Interrupt.{enteredOf}
 use Rattle.machine.specs.Timer.{tickedOf, actsOf, actedOf}
@@ -96,12 +96,19 @@ module _ (s : State) (m : List ℕ) (k : ℕ) where
       let e : length (bytesOf w (gprOf s rs)) ≡ bytes w = bytes-length w (gprOf s rs) in
       written-other m ea k (bytesOf w (gprOf s rs)) (accessOf (length m) ea (bytes w)) (rw e h)
 
+  store-double-other : (ds ea : ℕ) (u : Bool) (ra : ℕ) → Misses k (touchedAt m ea 8) → getD (storeDoubleAt s m ds ea u ra .mem) k 0 ≡ getD m k 0
+  unfolding storeDoubleAt storedDoubleOf
+  store-double-other ds ea u ra h =
+      written-other m ea k (doubleBytes (vdrOf s ds)) (accessOf (length m) ea 8) (rw (double-length (vdrOf s ds)) h)
+
   load-store-other : (i : LoadStore) → Misses k (writtenBy m (loadStoreUse s i)) → getD (loadStoreOf s m i .mem) k 0 ≡ getD m k 0
-  unfolding loadStoreOf loadAt
+  unfolding loadStoreOf loadAt loadDoubleAt
   load-store-other (LoadStore.Load w u rt ra d) h = refl
   load-store-other (LoadStore.LoadIndexed w rt ra rb) h = refl
   load-store-other (LoadStore.Store w u rs ra d) h = store-other w rs (offsetEa s ra d) u ra h
   load-store-other (LoadStore.StoreIndexed w rs ra rb) h = store-other w rs (indexedEa s ra rb) false ra h
+  load-store-other (LoadStore.LoadDouble u dt ra d) h = refl
+  load-store-other (LoadStore.StoreDouble u ds ra d) h = store-double-other ds (offsetEa s ra d) u ra h
 
   cache-other : (op : CacheOp) (ra rb : ℕ) → Misses k (writtenBy m (cacheUse s op ra rb)) → getD (cacheOf s m op ra rb .mem) k 0 ≡ getD m k 0
   unfolding cacheOf clearAt clearedOf
@@ -204,6 +211,16 @@ value-same Width.Word m n a h =
     let h0 : getD n a 0 ≡ getD m a 0 = rw add-zero at (h 0 (lit< tt)) in
     rw (h0, h 1 (lit< tt), h 2 (lit< tt), h 3 (lit< tt))
 
+double-same : (m n : List ℕ) (a : ℕ) → ((k : ℕ) → k < 8 → getD n (a + k) 0 ≡ getD m (a + k) 0) → doubleAt n a ≡ doubleAt m a
+unfolding doubleAt
+double-same m n a h =
+    rw (value-same Width.Word m n a (λ k l. h k (omega arith)), value-same Width.Word m n (a + 4) (λ k l. rw (add-assoc a 4 k) (h (4 + k) (omega arith))))
+
+loaded-double-same : (m n : List ℕ) (a : ℕ) (k : Access) → Agree m n (touched k a 8) → loadedDouble k (doubleAt n a) ≡ loadedDouble k (doubleAt m a)
+loaded-double-same m n a Access.Served h = rw (double-same m n a (h .0))
+loaded-double-same m n a Access.Unaligned h = refl
+loaded-double-same m n a Access.Outside h = refl
+
 loaded-same : (w : Width) (m n : List ℕ) (a : ℕ) (k : Access) → Agree m n (touched k a (bytes w)) → loaded k (valueAt w n a) ≡ loaded k (valueAt w m a)
 loaded-same w m n a Access.Served h = rw (value-same w m n a (h .0))
 loaded-same w m n a Access.Unaligned h = refl
@@ -234,6 +251,10 @@ module _ (m n : List ℕ) (l : length n ≡ length m) where
   unfolding loadOf
   load-same a w h = rw l (loaded-same w m n a (accessOf (length m) a (bytes w)) h)
 
+  load-double-same : (a : ℕ) → Agree m n (touchedAt m a 8) → loadDoubleOf n a ≡ loadDoubleOf m a
+  unfolding loadDoubleOf
+  load-double-same a h = rw l (loaded-double-same m n a (accessOf (length m) a 8) h)
+
   -- an instruction that asks nothing of the memory
   plain-same : (t : State) → Alike [] [] (plain t m) (plain t n)
   plain-same t = record { st = refl; past = refl; places = refl; written = tt }
@@ -251,6 +272,18 @@ module _ (m n : List ℕ) (l : length n ≡ length m) where
         let b : Agree (written (accessOf (length m) ea (bytes w)) m ea bs) (written (accessOf (length m) ea (bytes w)) n ea bs) (touchedAt m ea (bytes w)) = rw e at (written-same m n ea bs (accessOf (length m) ea (length bs)) l refl) in
         record { st = rw l; past = rw l; places = rw l; written = rw l b }
 
+    load-double-at-same : (dt ea : ℕ) (u : Bool) (ra : ℕ) → Agree m n (touchedAt m ea 8) → Alike [] [] (loadDoubleAt s m dt ea u ra) (loadDoubleAt s n dt ea u ra)
+    unfolding loadDoubleAt
+    load-double-at-same dt ea u ra h = record { st = rw (load-double-same ea h); past = rw l; places = refl; written = tt }
+
+    store-double-at-same : (ds ea : ℕ) (u : Bool) (ra : ℕ) → Alike (touchedAt m ea 8) (touchedAt n ea 8) (storeDoubleAt s m ds ea u ra) (storeDoubleAt s n ds ea u ra)
+    unfolding storeDoubleAt storedDoubleOf
+    store-double-at-same ds ea u ra =
+        let bs = doubleBytes (vdrOf s ds) in
+        let e : length bs ≡ 8 = double-length (vdrOf s ds) in
+        let b : Agree (written (accessOf (length m) ea 8) m ea bs) (written (accessOf (length m) ea 8) n ea bs) (touchedAt m ea 8) = rw e at (written-same m n ea bs (accessOf (length m) ea (length bs)) l refl) in
+        record { st = rw l; past = rw l; places = rw l; written = rw l b }
+
     clear-at-same : (ea : ℕ) → Alike (touchedAt m (blockAt ea) 32) (touchedAt n (blockAt ea) 32) (clearAt s m ea) (clearAt s n ea)
     unfolding clearAt clearedOf
     clear-at-same ea =
@@ -263,6 +296,8 @@ module _ (m n : List ℕ) (l : length n ≡ length m) where
     load-store-same (LoadStore.LoadIndexed w rt ra rb) h = load-at-same w rt (indexedEa s ra rb) false ra h
     load-store-same (LoadStore.Store w u rs ra d) h = store-at-same w rs (offsetEa s ra d) u ra
     load-store-same (LoadStore.StoreIndexed w rs ra rb) h = store-at-same w rs (indexedEa s ra rb) false ra
+    load-store-same (LoadStore.LoadDouble u dt ra d) h = load-double-at-same dt (offsetEa s ra d) u ra h
+    load-store-same (LoadStore.StoreDouble u ds ra d) h = store-double-at-same ds (offsetEa s ra d) u ra
 
     cache-same : (op : CacheOp) (ra rb : ℕ) → Alike (writtenBy m (cacheUse s op ra rb)) (writtenBy n (cacheUse s op ra rb)) (cacheOf s m op ra rb) (cacheOf s n op ra rb)
     unfolding cacheOf

@@ -15,6 +15,7 @@ use Rattle.word.specs.declared.shift.Shifted.{Shifted}
 use Rattle.memory.specs.Access.{pick}
 use Rattle.memory.specs.declared.access.Access.{Access}
 use Rattle.memory.specs.declared.load.Loaded.{Loaded}
+use Rattle.memory.specs.declared.load.LoadedDouble.{LoadedDouble}
 use Rattle.word.proofs.Truth.{never, and-left, and-right}
 use Rattle.insn.specs.declared.instr.Arithmetic.{Arithmetic}
 use Rattle.insn.specs.declared.instr.Logical.{Logical}
@@ -26,7 +27,7 @@ use Rattle.insn.specs.declared.instr.BranchOp.{BranchOp}
 use Rattle.insn.specs.declared.instr.System.{System}
 use Rattle.insn.specs.declared.instr.SprOp.{SprOp}
 use Rattle.insn.specs.declared.instr.MoveOp.{MoveOp}
-use Rattle.machine.specs.State.{gprOf, with, withGpr}
+use Rattle.machine.specs.State.{gprOf, with, withGpr, withVdr}
 use Rattle.machine.specs.Refusal.{acceptsOf}
 use Rattle.machine.specs.Register.{definedOf, cleanOf, soundOf, refusalOf}
 use Rattle.machine.specs.Interrupt.{offsetOf, vectorAt, keptOf, enteredOf, vectorFor, accessNoted, programNoted, notedOf, promotionOf, promotedOf, codeOf, haltedOf, takenFor, interruptedOf}
@@ -36,7 +37,7 @@ use Rattle.machine.specs.Arithmetic.{summedOf, arithmeticOf}
 use Rattle.machine.specs.Logical.{logicalOf}
 use Rattle.machine.specs.Compare.{comparedOf, compareOf}
 use Rattle.machine.specs.Rotate.{shiftedOf, shiftOf, rotateOf}
-use Rattle.machine.specs.LoadStore.{updatedOf, loadedState, storedState}
+use Rattle.machine.specs.LoadStore.{updatedOf, loadedState, storedState, loadedDoubleState}
 use Rattle.machine.specs.Branch.{targetAt, linkedOf, ctrAfter, takenOf, branchedOf, registerTarget, branchOf}
 use Rattle.machine.specs.Cache.{clearedState}
 use Rattle.machine.specs.System.{trapOf, sprOf, resetOf, dbcrWritten, decWritten, isrWritten, tsrWritten, written, sprWritten, enabledOf, movedOf, returnedOf, systemOf}
@@ -129,6 +130,10 @@ module _ {s : State} (k : Sound s) where
   gpr-sound : (n v : ℕ) → Sound (withGpr s n v)
   unfolding withGpr
   gpr-sound n v = search
+
+  vdr-sound : (n v : ℕ) → Sound (withVdr s n v)
+  unfolding withVdr withGpr
+  vdr-sound n v = search
 
   -- every field is as it was or the one that is given
   with-sound : {v : ℕ} (r : Reg) → Clean (definedOf r) v → with s r v .halt ≤ 5 → Sound (with s r v)
@@ -370,6 +375,11 @@ module _ {s : State} (k : Sound s) where
   loaded-sound (Loaded.Value v) rt update ra ea = next-sound (gpr-sound (updated-sound k update ra ea) rt v)
   loaded-sound Loaded.Unaligned rt update ra ea = interrupted-sound k (Cause.Alignment ea false)
   loaded-sound Loaded.Outside rt update ra ea = interrupted-sound k (Cause.DataStorage ea false)
+
+  pub loaded-double-sound : (l : LoadedDouble) (dt : ℕ) (update : Bool) (ra ea : ℕ) → Sound (loadedDoubleState s l dt update ra ea)
+  loaded-double-sound (LoadedDouble.Value v) dt update ra ea = next-sound (vdr-sound (updated-sound k update ra ea) dt v)
+  loaded-double-sound LoadedDouble.Unaligned dt update ra ea = interrupted-sound k (Cause.Alignment ea false)
+  loaded-double-sound LoadedDouble.Outside dt update ra ea = interrupted-sound k (Cause.DataStorage ea false)
 
   pub stored-sound : (a : Access) (update : Bool) (ra ea : ℕ) → Sound (storedState s a update ra ea)
   stored-sound Access.Served update ra ea = next-sound (updated-sound k update ra ea)

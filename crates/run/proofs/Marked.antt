@@ -10,11 +10,11 @@ use lib.Dec.{leb}
 use lib.ListN.{getD}
 use borrow.Author.Tests.{eq-eqb, le-leb, lt-leb}
 use Rattle.memory.specs.Access.{pick}
-use Rattle.machine.specs.After.{marked, unmarked, markedIf, markedOf}
+use Rattle.marked.specs.Mark.{marked, unmarked, markedIf, markedOf}
 use Rattle.machine.specs.Step.{stepOf}
 use Rattle.machine.specs.declared.state.State.{State}
 use Rattle.machine.proofs.Halts.{step-halt, reach-halt}
-use Rattle.machine.proofs.Marks.{unmarked-marked, mark-high}
+use Rattle.marked.proofs.Marks.{unmarked-marked, mark-high}
 use Rattle.run.specs.Run.{Ran, runOf, pastOf, insideOf}
 use Rattle.run.proofs.Laws.{run-halted, past-spent, past-halted}
 

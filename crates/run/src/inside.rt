@@ -11,6 +11,8 @@ use crate::run::refused;
 use machine::refusal::Refusal;
 use machine::refusal::accepts;
 use machine::state::State;
+use marked::mark::unmark;
+use marked::step::step_marked;
 
 // The run's loop: the mark of a reach ends it as a halt does, and is taken off behind it.
 fn accepted_inside(start: State, mem: &mut [u8], events: &[u8], budget: u32) -> Reached
@@ -26,12 +28,12 @@ fn accepted_inside(start: State, mem: &mut [u8], events: &[u8], budget: u32) -> 
         if s.halt != 0 {
             break;
         }
-        s = s.step_marked(mem, event_at(events, i));
+        s = step_marked(s, mem, event_at(events, i));
         i += 1;
     }
     let past = s.halt >= 8;
     if past {
-        s = s.unmark();
+        s = unmark(s);
     }
     Reached {
         outcome: Outcome {

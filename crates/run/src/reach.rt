@@ -10,6 +10,8 @@ use crate::run::refused;
 use machine::refusal::Refusal;
 use machine::refusal::accepts;
 use machine::state::State;
+use marked::mark::unmark;
+use marked::step::step_marked;
 
 // A run's outcome, and whether it reached.
 pub struct Reached {
@@ -37,11 +39,11 @@ fn accepted_reach(start: State, mem: &mut [u8], events: &[u8], budget: u32) -> R
                 steps: i,
             };
         }
-        s = s.step_marked(mem, event_at(events, i));
+        s = step_marked(s, mem, event_at(events, i));
         i += 1;
         if s.halt >= 8 {
             past = true;
-            s = s.unmark();
+            s = unmark(s);
         }
     };
     Reached {

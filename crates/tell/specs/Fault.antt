@@ -1,13 +1,13 @@
 -- The synchronous interrupt that an instruction raises, if it raises one (4.5.3, 4.5.4, 4.5.6, 4.5.7, 7.5.1).
 use Prim.Native.Nat.{ℕ}
-use mathlib.Core.Bool.{true, false}
+use mathlib.Core.Bool.{Bool, true, false}
 use mathlib.Core.List.{List}
 use lib.Dec.{eqb}
 use lib.ListN.{length}
 use Rattle.word.specs.Bits.{bitAt}
 use Rattle.word.specs.Width.{bytes}
 use Rattle.memory.specs.Access.{pick, accessOf}
-use Rattle.memory.specs.Load.{loadOf, fetchOf}
+use Rattle.memory.specs.Load.{fetchOf}
 use Rattle.memory.specs.Store.{blockAt}
 use Rattle.memory.specs.declared.access.Access.{Access}
 use Rattle.memory.specs.declared.load.Loaded.{Loaded}
@@ -21,27 +21,25 @@ use Rattle.machine.specs.declared.state.State.{State}
 use Rattle.machine.specs.declared.interrupt.Cause.{Cause}
 use Rattle.tell.specs.declared.fault.Raised.{Raised}
 
-abbrev pub loadRaises : Loaded → ℕ → Raised
-loadRaises (Loaded.Value v) ea = Raised.Nothing
-loadRaises Loaded.Unaligned ea = Raised.Raises (Cause.Alignment ea false)
-loadRaises Loaded.Outside ea = Raised.Raises (Cause.DataStorage ea false)
-
-abbrev pub storeRaises : Access → ℕ → Raised
-storeRaises Access.Served ea = Raised.Nothing
-storeRaises Access.Unaligned ea = Raised.Raises (Cause.Alignment ea true)
-storeRaises Access.Outside ea = Raised.Raises (Cause.DataStorage ea true)
+-- an access at an address, by a store or not
+abbrev pub accessRaises : Access → ℕ → Bool → Raised
+accessRaises Access.Served ea store = Raised.Nothing
+accessRaises Access.Unaligned ea store = Raised.Raises (Cause.Alignment ea store)
+accessRaises Access.Outside ea store = Raised.Raises (Cause.DataStorage ea store)
 
 abbrev pub loadStoreRaises : State → List ℕ → LoadStore → Raised
-loadStoreRaises s m (LoadStore.Load w u rt ra d) = loadRaises (loadOf m (offsetEa s ra d) w) (offsetEa s ra d)
-loadStoreRaises s m (LoadStore.LoadIndexed w rt ra rb) = loadRaises (loadOf m (indexedEa s ra rb) w) (indexedEa s ra rb)
-loadStoreRaises s m (LoadStore.Store w u rs ra d) = storeRaises (accessOf (length m) (offsetEa s ra d) (bytes w)) (offsetEa s ra d)
-loadStoreRaises s m (LoadStore.StoreIndexed w rs ra rb) = storeRaises (accessOf (length m) (indexedEa s ra rb) (bytes w)) (indexedEa s ra rb)
+loadStoreRaises s m (LoadStore.Load w u rt ra d) = accessRaises (accessOf (length m) (offsetEa s ra d) (bytes w)) (offsetEa s ra d) false
+loadStoreRaises s m (LoadStore.LoadIndexed w rt ra rb) = accessRaises (accessOf (length m) (indexedEa s ra rb) (bytes w)) (indexedEa s ra rb) false
+loadStoreRaises s m (LoadStore.Store w u rs ra d) = accessRaises (accessOf (length m) (offsetEa s ra d) (bytes w)) (offsetEa s ra d) true
+loadStoreRaises s m (LoadStore.StoreIndexed w rs ra rb) = accessRaises (accessOf (length m) (indexedEa s ra rb) (bytes w)) (indexedEa s ra rb) true
+loadStoreRaises s m (LoadStore.LoadDouble u dt ra d) = accessRaises (accessOf (length m) (offsetEa s ra d) 8) (offsetEa s ra d) false
+loadStoreRaises s m (LoadStore.StoreDouble u ds ra d) = accessRaises (accessOf (length m) (offsetEa s ra d) 8) (offsetEa s ra d) true
 
 abbrev pub cacheRaises : State → List ℕ → CacheOp → ℕ → ℕ → Raised
 cacheRaises s m CacheOp.Dcbf ra rb = Raised.Nothing
 cacheRaises s m CacheOp.Dcbi ra rb = Raised.Nothing
 cacheRaises s m CacheOp.Dcbt ra rb = Raised.Nothing
-cacheRaises s m CacheOp.Dcbz ra rb = storeRaises (accessOf (length m) (blockAt (indexedEa s ra rb)) 32) (indexedEa s ra rb)
+cacheRaises s m CacheOp.Dcbz ra rb = accessRaises (accessOf (length m) (blockAt (indexedEa s ra rb)) 32) (indexedEa s ra rb) true
 
 abbrev pub trapRaises : State → ℕ → ℕ → Raised
 trapRaises s word to = pick (eqb to 0) Raised.Nothing (pick (bitAt (s .dbcr) 7) Raised.Nothing (Raised.Raises (Cause.Program word true)))

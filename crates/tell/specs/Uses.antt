@@ -26,6 +26,8 @@ loadStoreUse s (LoadStore.Load w u rt ra d) = Use.Reads (offsetEa s ra d) (bytes
 loadStoreUse s (LoadStore.LoadIndexed w rt ra rb) = Use.Reads (indexedEa s ra rb) (bytes w)
 loadStoreUse s (LoadStore.Store w u rs ra d) = Use.Writes (offsetEa s ra d) (bytes w)
 loadStoreUse s (LoadStore.StoreIndexed w rs ra rb) = Use.Writes (indexedEa s ra rb) (bytes w)
+loadStoreUse s (LoadStore.LoadDouble u dt ra d) = Use.Reads (offsetEa s ra d) 8
+loadStoreUse s (LoadStore.StoreDouble u ds ra d) = Use.Writes (offsetEa s ra d) 8
 
 abbrev pub cacheUse : State → CacheOp → ℕ → ℕ → Use
 cacheUse s CacheOp.Dcbf ra rb = Use.Idle

@@ -1,7 +1,7 @@
 // The synchronous interrupt that an instruction raises, if it raises one.
 ghost use mathlib.Core.Path.{_≡_};
 ghost use Rattle.insn.specs.Read.{decodeOf};
-ghost use Rattle.tell.specs.Fault.{loadRaises, storeRaises, loadStoreRaises, cacheRaises, trapRaises, executeRaises, decodedRaises, raisedOf};
+ghost use Rattle.tell.specs.Fault.{accessRaises, loadStoreRaises, cacheRaises, trapRaises, executeRaises, decodedRaises, raisedOf};
 use insn::instr::CacheOp;
 use insn::instr::Decoded;
 use insn::instr::Instr;
@@ -12,9 +12,9 @@ use machine::state::State;
 use memory::access::Access;
 use memory::access::access_at;
 use memory::access::block_access;
+use memory::access::double_access;
 use memory::load::Loaded;
 use memory::load::fetch;
-use memory::load::load;
 use word::bits::Bit;
 use word::bits::bit_at;
 
@@ -23,35 +23,13 @@ pub enum Raised {
     Raises(Cause),
 }
 
-fn load_raises(got: Loaded, ea: u32) -> Raised
-    ensures { λ r. ⌜ r ≡ loadRaises got ea ⌝ }
-{
-    match got {
-        Loaded::Value(_) => Raised::Nothing,
-        Loaded::Unaligned => Raised::Raises(Cause::Alignment {
-            address: ea,
-            store: false,
-        }),
-        Loaded::Outside => Raised::Raises(Cause::DataStorage {
-            address: ea,
-            store: false,
-        }),
-    }
-}
-
-fn store_raises(access: Access, ea: u32) -> Raised
-    ensures { λ r. ⌜ r ≡ storeRaises access ea ⌝ }
+fn access_raises(access: Access, ea: u32, store: bool) -> Raised
+    ensures { λ r. ⌜ r ≡ accessRaises access ea store ⌝ }
 {
     match access {
         Access::Served => Raised::Nothing,
-        Access::Unaligned => Raised::Raises(Cause::Alignment {
-            address: ea,
-            store: true,
-        }),
-        Access::Outside => Raised::Raises(Cause::DataStorage {
-            address: ea,
-            store: true,
-        }),
+        Access::Unaligned => Raised::Raises(Cause::Alignment { address: ea, store }),
+        Access::Outside => Raised::Raises(Cause::DataStorage { address: ea, store }),
     }
 }
 
@@ -67,7 +45,7 @@ fn load_store_raises(state: State, mem: &[u8], i: LoadStore) -> Raised
             d,
         } => {
             let ea = state.offset_ea(ra, d);
-            load_raises(load(mem, ea, width), ea)
+            access_raises(access_at(mem.len(), ea, width), ea, false)
         }
         LoadStore::LoadIndexed {
             width,
@@ -76,7 +54,7 @@ fn load_store_raises(state: State, mem: &[u8], i: LoadStore) -> Raised
             rb,
         } => {
             let ea = state.indexed_ea(ra, rb);
-            load_raises(load(mem, ea, width), ea)
+            access_raises(access_at(mem.len(), ea, width), ea, false)
         }
         LoadStore::Store {
             width,
@@ -86,7 +64,7 @@ fn load_store_raises(state: State, mem: &[u8], i: LoadStore) -> Raised
             d,
         } => {
             let ea = state.offset_ea(ra, d);
-            store_raises(access_at(mem.len(), ea, width), ea)
+            access_raises(access_at(mem.len(), ea, width), ea, true)
         }
         LoadStore::StoreIndexed {
             width,
@@ -95,7 +73,25 @@ fn load_store_raises(state: State, mem: &[u8], i: LoadStore) -> Raised
             rb,
         } => {
             let ea = state.indexed_ea(ra, rb);
-            store_raises(access_at(mem.len(), ea, width), ea)
+            access_raises(access_at(mem.len(), ea, width), ea, true)
+        }
+        LoadStore::LoadDouble {
+            update: _,
+            dt: _,
+            ra,
+            d,
+        } => {
+            let ea = state.offset_ea(ra, d);
+            access_raises(double_access(mem.len(), ea), ea, false)
+        }
+        LoadStore::StoreDouble {
+            update: _,
+            ds: _,
+            ra,
+            d,
+        } => {
+            let ea = state.offset_ea(ra, d);
+            access_raises(double_access(mem.len(), ea), ea, true)
         }
     }
 }
@@ -109,7 +105,7 @@ fn cache_raises(state: State, mem: &[u8], op: CacheOp, ra: u8, rb: u8) -> Raised
         CacheOp::Dcbt => Raised::Nothing,
         CacheOp::Dcbz => {
             let ea = state.indexed_ea(ra, rb);
-            store_raises(block_access(mem.len(), ea), ea)
+            access_raises(block_access(mem.len(), ea), ea, true)
         }
     }
 }

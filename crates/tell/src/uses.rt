@@ -74,6 +74,24 @@ fn load_store_use(state: State, i: LoadStore) -> Use
             at: state.indexed_ea(ra, rb),
             bytes: bytes(width),
         },
+        LoadStore::LoadDouble {
+            update: _,
+            dt: _,
+            ra,
+            d,
+        } => Use::Reads {
+            at: state.offset_ea(ra, d),
+            bytes: 8,
+        },
+        LoadStore::StoreDouble {
+            update: _,
+            ds: _,
+            ra,
+            d,
+        } => Use::Writes {
+            at: state.offset_ea(ra, d),
+            bytes: 8,
+        },
     }
 }
 

@@ -7,17 +7,18 @@ use std::path::{Path, PathBuf};
 use std::process::Output;
 use std::sync::OnceLock;
 
-const FIRMWARE: [(&str, &[&str]); 3] = [
+const FIRMWARE: [(&str, &[&str]); 4] = [
     ("ledger", &["examples/ledger/start.s", "examples/ledger/ledger.c"]),
     ("ticks", &["everyday/tests/firmware/ticks.s", "everyday/tests/firmware/ticks.c"]),
     ("look", &["examples/ledger/start.s", "everyday/tests/firmware/look.c"]),
+    ("context", &["everyday/tests/firmware/context.s"]),
 ];
 
 pub fn root() -> PathBuf {
     Path::new(env!("CARGO_MANIFEST_DIR")).parent().expect("everyday/ stands in the repository").into()
 }
 
-/// The folder with ledger.elf, ticks.elf, look.elf and lacks.elf, compiled once.
+/// The folder with ledger.elf, ticks.elf, look.elf, context.elf and lacks.elf, compiled once.
 pub fn firmware() -> &'static Path {
     static BUILT: OnceLock<PathBuf> = OnceLock::new();
     BUILT.get_or_init(|| {
@@ -41,7 +42,7 @@ pub fn folder(name: &str) -> PathBuf {
     let folder = Path::new(env!("CARGO_TARGET_TMPDIR")).join(name);
     let _ = fs::remove_dir_all(&folder);
     fs::create_dir_all(&folder).expect("a folder for the test");
-    for name in ["ledger.elf", "ticks.elf", "look.elf", "lacks.elf"] {
+    for name in ["ledger.elf", "ticks.elf", "look.elf", "context.elf", "lacks.elf"] {
         fs::copy(firmware().join(name), folder.join(name)).expect("the firmware is there");
     }
     folder

@@ -20,18 +20,24 @@ pub struct Case {
     pub budget: u32,
 }
 
-/// Three sorts of start: one instruction with registers at the edges, a program whose faults return to it, so that it
-/// goes on, and one where anything may happen.
+/// Four sorts of start: one instruction with registers at the edges, one access of a doubleword with registers that are
+/// addresses of some, a program whose faults return to it, so that it goes on, and one where anything may happen.
 #[derive(Clone, Copy, PartialEq, Eq)]
 enum Start {
     Single,
+    Doubleword,
     Tame,
     Wild,
 }
 
 impl Case {
     pub fn draw(urn: &mut Urn) -> Case {
-        let start = urn.pick(&[Start::Single, Start::Single, Start::Single, Start::Tame, Start::Tame, Start::Wild]);
+        let start = match urn.below(7) {
+            0..=2 => Start::Single,
+            3 => Start::Doubleword,
+            4..=5 => Start::Tame,
+            _ => Start::Wild,
+        };
         let length = memory_length(urn, start);
         let words = draw_state(urn, start, length);
         let budget = draw_budget(urn, start);
@@ -58,6 +64,7 @@ fn memory_length(urn: &mut Urn, start: Start) -> u32 {
     let blocks = match (start, urn.below(3000)) {
         (_, 0) => return MOST,
         (Start::Single, _) => 1 + urn.below(4),
+        (Start::Doubleword, _) => 1 + urn.below(32),
         (Start::Tame, _) => VECTORS / 32 + urn.below(64),
         (_, 1..=600) => 1,
         (_, 601..=1600) => 1 + urn.below(4),
@@ -72,7 +79,7 @@ fn draw_budget(urn: &mut Urn, start: Start) -> u32 {
         (_, 0..=19) => 0,
         (_, 20..=119) => 1,
         (_, 120..=122) => 200 + urn.below(5000),
-        (Start::Single, _) => 1 + urn.below(3),
+        (Start::Single | Start::Doubleword, _) => 1 + urn.below(3),
         (Start::Tame, _) => 1 + urn.below(80),
         (Start::Wild, _) => 1 + urn.below(16),
     }
@@ -84,6 +91,8 @@ fn draw_state(urn: &mut Urn, start: Start, length: u32) -> [u32; WORDS] {
     for word in &mut words[..16] {
         *word = match start {
             Start::Single if urn.percent(75) => urn.value(),
+            // The end of memory among them.
+            Start::Doubleword if urn.percent(75) => urn.below(length / 8 + 1) * 8,
             Start::Tame if urn.percent(40) => urn.below(length / 8) * 8,
             _ => register(urn, length),
         };
@@ -184,22 +193,26 @@ fn timer_control(urn: &mut Urn) -> u32 {
 fn draw_memory(urn: &mut Urn, start: Start, length: usize, words: &[u32; WORDS]) -> Vec<u8> {
     let mut memory = vec![0; length];
     urn.fill(&mut memory);
-    if start == Start::Single {
-        let word = draw_word(urn);
-        put(&mut memory, words[IAR], &[word]);
-        return memory;
-    }
-    let written = length.min(4096) as u32;
-    for address in (0..written).step_by(4) {
-        let word = if start == Start::Tame && urn.percent(75) { draw_form(urn).draw(urn) } else { draw_word(urn) };
-        put(&mut memory, address, &[word]);
-    }
-    let handled = if start == Start::Tame { 95 } else { 30 };
-    for offset in (0..VECTORS).step_by(32).filter(|_| urn.percent(handled)).collect::<Vec<_>>() {
-        let handler = if urn.percent(80) { CLEAR_AND_SKIP } else { urn.pick(&[SKIP, RETURN]) };
-        put(&mut memory, words[IVPR] | offset, handler);
+    match start {
+        Start::Single => put(&mut memory, words[IAR], &[draw_word(urn)]),
+        Start::Doubleword => put(&mut memory, words[IAR], &[urn.pick(&DOUBLEWORDS).draw(urn)]),
+        Start::Tame => put_program(urn, &mut memory, words[IVPR], 75, 95),
+        Start::Wild => put_program(urn, &mut memory, words[IVPR], 0, 30),
     }
     memory
+}
+
+/// Fills memory with words, so many of a hundred surely legal, and puts handlers at so many of a hundred vectors.
+fn put_program(urn: &mut Urn, memory: &mut [u8], vectors: u32, legal: u32, handled: u32) {
+    let written = memory.len().min(4096) as u32;
+    for address in (0..written).step_by(4) {
+        let word = if urn.percent(legal) { draw_form(urn).draw(urn) } else { draw_word(urn) };
+        put(memory, address, &[word]);
+    }
+    for offset in (0..VECTORS).step_by(32).filter(|_| urn.percent(handled)).collect::<Vec<_>>() {
+        let handler = if urn.percent(80) { CLEAR_AND_SKIP } else { urn.pick(&[SKIP, RETURN]) };
+        put(memory, vectors | offset, handler);
+    }
 }
 
 /// Writes words where they fall inside memory.
@@ -249,8 +262,14 @@ fn draw_form(urn: &mut Urn) -> &'static Form {
 static FAVOURED: LazyLock<Vec<&'static Form>> = LazyLock::new(|| {
     let favoured = ["mtspr", "mfspr", "mtmsr", "rfi", "tw", "wrtee", "wrteei", "dcbz", "bc", "bclr", "sraw", "adde"];
     let accesses = ["lbzu", "lhz", "lhzu", "lwz", "lwzu", "lwzx", "sth", "sthu", "stw", "stwu", "stwx"];
-    FORMS.iter().filter(|form| favoured.contains(&form.mnemonic) || accesses.contains(&form.mnemonic)).collect()
+    [named(&favoured), named(&accesses), DOUBLEWORDS.clone()].concat()
 });
+
+static DOUBLEWORDS: LazyLock<Vec<&'static Form>> = LazyLock::new(|| named(&["lvd", "lvdu", "stvd", "stvdu"]));
+
+fn named(mnemonics: &[&str]) -> Vec<&'static Form> {
+    FORMS.iter().filter(|form| mnemonics.contains(&form.mnemonic)).collect()
+}
 
 fn draw_events(urn: &mut Urn, budget: u32) -> Vec<u8> {
     let style = urn.below(5);

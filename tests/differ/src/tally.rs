@@ -12,6 +12,8 @@ const REFUSALS: usize = 9;
 /// Things that can be told of a step.
 const TOLD: usize = 13;
 
+const DOUBLEWORDS: [Kind; 4] = [Kind::Lvd, Kind::Lvdu, Kind::Stvd, Kind::Stvdu];
+
 pub struct Tally {
     pub cases: u64,
     pub steps: u64,
@@ -27,6 +29,8 @@ pub struct Tally {
     asked_refused: [u64; REFUSALS],
     /// Steps without an event in which TCR enables nothing and DEC counts.
     quiet: u64,
+    /// Steps that access a doubleword and fault.
+    doublewords_faulted: u64,
     /// Cases in which more memory and a longer run were tried.
     pub grown: u64,
     executed: BTreeMap<&'static str, u64>,
@@ -57,6 +61,7 @@ impl Default for Tally {
             accesses: 0,
             asked_refused: [0; REFUSALS],
             quiet: 0,
+            doublewords_faulted: 0,
             grown: 0,
             executed: Kind::ALL.iter().map(|kind| (kind.mnemonic(), 0)).collect(),
             waited: 0,
@@ -90,6 +95,7 @@ impl Tally {
             Outcome::Executed(kind) => self.execute(kind, word),
             Outcome::Faulted(fault, taken) => {
                 *self.faults.entry((synchronous(fault), how(taken))).or_default() += 1;
+                self.doublewords_faulted += is_doubleword(word) as u64;
             }
         }
     }
@@ -140,6 +146,10 @@ impl Tally {
     }
 }
 
+fn is_doubleword(word: Option<Word>) -> bool {
+    word.and_then(Word::kind).is_some_and(|kind| DOUBLEWORDS.contains(&kind))
+}
+
 fn asynchronous(cause: Asynchronous) -> &'static str {
     match cause {
         Asynchronous::Watchdog => "watchdog timer",
@@ -177,6 +187,9 @@ impl fmt::Display for Tally {
         let asked: u64 = self.told.iter().sum();
         writeln!(f, "{asked} steps asked beforehand what they do, {} of them access data", self.accesses)?;
         writeln!(f, "{} steps without an event or anything that TCR asks for", self.quiet)?;
+        let served: u64 = DOUBLEWORDS.iter().map(|kind| self.executed[kind.mnemonic()]).sum();
+        let doublewords = served + self.doublewords_faulted;
+        writeln!(f, "{doublewords} steps that access a doubleword, {served} of them served")?;
         writeln!(f, "{} cases run again with more memory and a longer run", self.grown)?;
         writeln!(f, "executed:")?;
         for row in self.executed.iter().collect::<Vec<_>>().chunks(6) {

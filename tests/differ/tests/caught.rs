@@ -4,7 +4,7 @@ use differ::{compare, Tally};
 use draw::Urn;
 use linked::{Library, LINKED, REACHED};
 use second::registers::{isr, msr, tcr, tsr, xer};
-use second::{Access, Asynchronous, Core, Fault, Kind, Outcome, Taken};
+use second::{Access, Asynchronous, Core, Fault, Kind, Outcome, Taken, Word};
 use std::cell::Cell;
 
 const CASES: u64 = 50_000;
@@ -64,6 +64,70 @@ const FLAWS: [(&str, Flaw); 9] = [
     }),
 ];
 
+/// A step that tries a doubleword: core and memory before it, its word and its address.
+struct Tried {
+    core: Core,
+    memory: Vec<u8>,
+    word: Word,
+    at: usize,
+}
+
+impl Tried {
+    fn of(core: &Core, memory: &[u8], event: u8) -> Option<Tried> {
+        let access = core.access(memory, event).filter(|access| access.bytes == 8)?;
+        let word = Word(u32::from_be_bytes(*memory[core.iar as usize..].first_chunk()?));
+        Some(Tried { core: core.clone(), memory: memory.to_vec(), word, at: access.address as usize })
+    }
+
+    fn pair(&self) -> [usize; 2] {
+        [self.word.rt(), self.word.rt_low()]
+    }
+}
+
+/// Changes core and memory after such a step, given what it came to.
+type PairFlaw = fn(&Tried, Outcome, &mut Core, &mut [u8]);
+
+const PAIR_FLAWS: [(&str, PairFlaw); 7] = [
+    ("31 is loaded without 0", |tried, outcome, after, _| {
+        if matches!(outcome, Outcome::Executed(Kind::Lvd | Kind::Lvdu)) && tried.word.rt() == 31 {
+            after.gpr[0] = tried.core.gpr[0];
+        }
+    }),
+    ("31 is stored without 0", |tried, outcome, _, memory| {
+        if matches!(outcome, Outcome::Executed(Kind::Stvd | Kind::Stvdu)) && tried.word.rt() == 31 {
+            memory[tried.at + 4..][..4].fill(0);
+        }
+    }),
+    ("the second word is stored over the first", |tried, outcome, _, memory| {
+        if matches!(outcome, Outcome::Executed(Kind::Stvd | Kind::Stvdu)) {
+            memory.copy_within(tried.at + 4..tried.at + 8, tried.at);
+            memory[tried.at + 4..][..4].copy_from_slice(&tried.memory[tried.at + 4..][..4]);
+        }
+    }),
+    ("a fault leaves its address in RA", |tried, outcome, after, _| {
+        if matches!(outcome, Outcome::Faulted(..)) && matches!(tried.word.kind(), Some(Kind::Lvdu | Kind::Stvdu)) {
+            after.gpr[tried.word.ra()] = tried.at as u32;
+        }
+    }),
+    ("half is stored before a fault", |tried, outcome, _, memory| {
+        if matches!(outcome, Outcome::Faulted(Fault::Alignment { store: true, .. }, _)) {
+            let half = tried.core.gpr[tried.word.rt()].to_be_bytes();
+            memory.iter_mut().skip(tried.at).zip(half).for_each(|(byte, stored)| *byte = stored);
+        }
+    }),
+    ("lvd leaves a base in its pair", |tried, outcome, after, _| {
+        if outcome == Outcome::Executed(Kind::Lvd) && tried.pair().contains(&tried.word.ra()) {
+            after.gpr[tried.word.ra()] = tried.core.gpr[tried.word.ra()];
+        }
+    }),
+    ("stvdu stores the new base in its pair", |tried, outcome, after, memory| {
+        if outcome == Outcome::Executed(Kind::Stvdu) {
+            let stored = tried.pair().map(|number| after.gpr[number].to_be_bytes());
+            memory[tried.at..][..8].copy_from_slice(&stored.concat());
+        }
+    }),
+];
+
 /// What a run tells of its reach after a step: given what it told before, what the step came to, and whether IAR was
 /// outside memory before the step and after it.
 type Tell = fn(bool, Outcome, [bool; 2]) -> bool;
@@ -91,10 +155,11 @@ const WRONGLY: [(&str, Tell); 7] = [
 
 thread_local! {
     static FLAW: Cell<Flaw> = const { Cell::new(|_, _, _| ()) };
+    static PAIR_FLAW: Cell<PairFlaw> = const { Cell::new(|_, _, _, _| ()) };
     static TELL: Cell<Tell> = const { Cell::new(RIGHTLY) };
 }
 
-/// A run of the second implementation with the flaw, which tells its reach as it is set to, to the end or up to that.
+/// A run of the second implementation with the flaws, which tells its reach as it is set to, to the end or up to that.
 fn flawed(to_the_end: bool, state: &mut [u8], memory: &mut [u8], events: &[u8], budget: u32) -> u64 {
     let Ok(mut core) = second::accept(state, memory, events, budget) else {
         return second::run_reach(state, memory, events, budget);
@@ -102,9 +167,13 @@ fn flawed(to_the_end: bool, state: &mut [u8], memory: &mut [u8], events: &[u8], 
     let mut steps = 0;
     let mut reached = false;
     while steps < budget && core.halt == 0 && (to_the_end || !reached) {
-        let before = core.clone();
-        let outcome = core.step(memory, events.get(steps as usize).copied().unwrap_or(0));
+        let event = events.get(steps as usize).copied().unwrap_or(0);
+        let (before, tried) = (core.clone(), Tried::of(&core, memory, event));
+        let outcome = core.step(memory, event);
         FLAW.get()(&before, outcome, &mut core);
+        if let Some(tried) = tried {
+            PAIR_FLAW.get()(&tried, outcome, &mut core, memory);
+        }
         let outside = [before.iar, core.iar].map(|iar| iar as usize >= memory.len());
         reached = TELL.get()(reached, outcome, outside);
         steps += 1;
@@ -125,13 +194,26 @@ fn flawed_run(state: &mut [u8], memory: &mut [u8], events: &[u8], budget: u32) -
     flawed_run_reach(state, memory, events, budget) & !REACHED
 }
 
+/// That what is set is caught in each of the three runs.
+fn assert_caught(name: &str) {
+    assert!(caught(&Library { run: flawed_run, ..LINKED }), "{name}");
+    assert!(caught(&Library { run_reach: flawed_run_reach, ..LINKED }), "{name}, where the reach is told");
+    assert!(caught(&Library { run_inside: flawed_run_inside, ..LINKED }), "{name}, up to the reach");
+}
+
 #[test]
 fn flaws_of_a_step() {
     for (name, flaw) in FLAWS {
         FLAW.set(flaw);
-        assert!(caught(&Library { run: flawed_run, ..LINKED }), "{name}");
-        assert!(caught(&Library { run_reach: flawed_run_reach, ..LINKED }), "{name}, where the reach is told");
-        assert!(caught(&Library { run_inside: flawed_run_inside, ..LINKED }), "{name}, up to the reach");
+        assert_caught(name);
+    }
+}
+
+#[test]
+fn flaws_of_a_doubleword() {
+    for (name, flaw) in PAIR_FLAWS {
+        PAIR_FLAW.set(flaw);
+        assert_caught(name);
     }
 }
 
@@ -151,7 +233,7 @@ fn flaws_of_telling_a_reach() {
 /// What is told of a step with this event: given the core, what the step comes to, and the length of memory.
 type Told = fn(&Core, Outcome, u8, usize) -> u32;
 
-const TOLD_WRONGLY: [(&str, Told); 12] = [
+const TOLD_WRONGLY: [(&str, Told); 13] = [
     ("a halted core executes", |_, outcome, _, _| outcome.told().max(1)),
     ("a fault that halts is a halt", |_, outcome, _, _| match outcome {
         Outcome::Faulted(_, Taken::Halting) => 0,
@@ -172,6 +254,10 @@ const TOLD_WRONGLY: [(&str, Told); 12] = [
     }),
     ("an unaligned access is one outside", |_, outcome, _, _| match outcome {
         Outcome::Faulted(Fault::Alignment { .. }, _) => 8,
+        _ => outcome.told(),
+    }),
+    ("a doubleword may stand at any word", |_, outcome, _, _| match outcome {
+        Outcome::Faulted(Fault::Alignment { address, .. }, _) if address % 4 == 0 => 1,
         _ => outcome.told(),
     }),
     ("the two storage faults are one", |_, outcome, _, _| match outcome {
@@ -199,7 +285,7 @@ const TOLD_WRONGLY: [(&str, Told); 12] = [
 /// What is told of a step's access: given what it rightly is, what the step comes to, and the core.
 type Accesses = fn(Option<Access>, Outcome, &Core) -> Option<Access>;
 
-const ACCESSED_WRONGLY: [(&str, Accesses); 9] = [
+const ACCESSED_WRONGLY: [(&str, Accesses); 10] = [
     ("nothing is accessed", |_, _, _| None),
     ("an unaligned access is not tried", |access, outcome, _| {
         access.filter(|_| !matches!(outcome, Outcome::Faulted(Fault::Alignment { .. }, _)))
@@ -214,6 +300,9 @@ const ACCESSED_WRONGLY: [(&str, Accesses); 9] = [
     ("dcbz is one byte", |access, _, _| access.map(|access| Access { bytes: (access.bytes % 32).max(1), ..access })),
     ("dcbz reads", |access, _, _| {
         access.map(|access| Access { writes: access.writes && access.bytes != 32, ..access })
+    }),
+    ("a doubleword is its first word", |access, _, _| {
+        access.map(|access| Access { bytes: if access.bytes == 8 { 4 } else { access.bytes }, ..access })
     }),
     ("a load writes", |access, _, _| access.map(|access| Access { writes: true, ..access })),
     ("a halfword begins at a word", |access, _, _| {
@@ -264,6 +353,14 @@ fn flaws_of_telling_an_access() {
 
 fn lhzu_into_its_base_is_legal(word: u32) -> u32 {
     (word >> 26 == 41 && word >> 21 & 31 == word >> 16 & 31 || second::legal(word)) as u32
+}
+
+fn lvdu_into_its_base_is_legal(word: u32) -> u32 {
+    (word >> 26 == 9 && (word >> 21 & 31) + 1 == word >> 16 & 31 || second::legal(word)) as u32
+}
+
+fn register_10_begins_a_pair(word: u32) -> u32 {
+    (word >> 21 == 5 << 5 | 10 || second::legal(word)) as u32
 }
 
 fn branch_hint_is_lost(word: u32) -> u64 {
@@ -384,6 +481,8 @@ fn byte_after_a_capture_is_cleared(state: &[u8], memory: &[u8], out: &mut [u8]) 
 #[test]
 fn flaws_of_single_functions() {
     assert!(caught(&Library { legal: lhzu_into_its_base_is_legal, ..LINKED }));
+    assert!(caught(&Library { legal: lvdu_into_its_base_is_legal, ..LINKED }));
+    assert!(caught(&Library { legal: register_10_begins_a_pair, ..LINKED }));
     assert!(caught(&Library { rewrite: branch_hint_is_lost, ..LINKED }));
     assert!(caught(&Library { run: halting_step_is_not_counted, ..LINKED }));
     assert!(caught(&Library { run: halt_code_is_checked_before_iar, ..LINKED }));

@@ -6,6 +6,9 @@ use crate::urn::Urn;
 /// The sixteen defined registers; the first is the one that bases of update forms leave out.
 pub const REGISTERS: [u32; 16] = [0, 1, 2, 3, 4, 5, 6, 7, 8, 9, 10, 13, 28, 29, 30, 31];
 
+/// Those with a defined register after them, which is 0 after 31: the first registers of the pairs.
+const PAIRS: [u32; 14] = [0, 1, 2, 3, 4, 5, 6, 7, 8, 9, 28, 29, 30, 31];
+
 /// The sixteen SPR numbers; the last three cannot be written.
 pub const SPRS: [u32; 16] = [1, 8, 9, 22, 26, 27, 61, 62, 272, 308, 316, 336, 340, 63, 286, 287];
 const WRITABLE: usize = 13;
@@ -16,9 +19,10 @@ enum Values {
     Any {
         width: u32,
     },
-    /// A signed number that is mostly small.
+    /// A signed number that is mostly small and often a multiple of the unit.
     Offset {
         width: u32,
+        unit: u32,
     },
     Listed(&'static [u32]),
     Sprs(&'static [u32]),
@@ -36,14 +40,14 @@ pub struct Form {
     pub mnemonic: &'static str,
     fixed: u32,
     fields: &'static [Field],
-    /// RT and RA must differ, as in the update loads.
-    distinct: bool,
+    /// RA must be none of so many registers from RT on: those that an update load loads.
+    apart: u32,
 }
 
 impl Field {
     fn count(&self) -> u64 {
         match self.values {
-            Values::Any { width } | Values::Offset { width } => 1 << width,
+            Values::Any { width } | Values::Offset { width, .. } => 1 << width,
             Values::Listed(values) | Values::Sprs(values) => values.len() as u64,
         }
     }
@@ -51,7 +55,7 @@ impl Field {
     fn draw(&self, urn: &mut Urn) -> u32 {
         let value = match self.values {
             Values::Any { width } => urn.word() & ((1 << width) - 1),
-            Values::Offset { width } => offset(urn) & ((1 << width) - 1),
+            Values::Offset { width, unit } => draw_offset(urn, unit) & ((1 << width) - 1),
             Values::Listed(values) => urn.pick(values),
             Values::Sprs(numbers) => swapped(urn.pick(numbers)),
         };
@@ -64,9 +68,9 @@ fn swapped(number: u32) -> u32 {
     (number & 31) << 5 | number >> 5
 }
 
-fn offset(urn: &mut Urn) -> u32 {
+fn draw_offset(urn: &mut Urn, unit: u32) -> u32 {
     match urn.below(8) {
-        0..=2 => (urn.below(64).wrapping_sub(32)) << 2,
+        0..=2 => urn.below(256).wrapping_sub(128) / unit * unit,
         3..=4 => urn.below(32).wrapping_sub(16),
         5 => urn.pick(&[0, 1, 0x7FFF, 0x8000, 0xFFFF]),
         _ => urn.word(),
@@ -77,11 +81,12 @@ impl Form {
     /// How many words the form has.
     pub fn count(&self) -> u64 {
         let words: u64 = self.fields.iter().map(Field::count).product();
-        // Each of the fifteen bases rules out one target of sixteen.
-        if self.distinct {
-            words / 16 * 15
-        } else {
-            words
+        match self.apart {
+            0 => words,
+            // Each of the fifteen bases rules out one target of sixteen.
+            1 => words / 16 * 15,
+            // Twelve pairs rule out two bases of fifteen; the two that r0 is in, one.
+            _ => words / (14 * 15) * (12 * 13 + 2 * 14),
         }
     }
 
@@ -89,7 +94,8 @@ impl Form {
     pub fn draw(&self, urn: &mut Urn) -> u32 {
         loop {
             let word = self.fields.iter().fold(self.fixed, |word, field| word | field.draw(urn));
-            if !self.distinct || word >> 21 & 31 != word >> 16 & 31 {
+            let (rt, ra) = (word >> 21 & 31, word >> 16 & 31);
+            if ra.wrapping_sub(rt) % 32 >= self.apart {
                 return word;
             }
         }
@@ -98,6 +104,10 @@ impl Form {
 
 const fn any(shift: u32, width: u32) -> Field {
     Field { values: Values::Any { width }, shift }
+}
+
+const fn offset(shift: u32, width: u32, unit: u32) -> Field {
+    Field { values: Values::Offset { width, unit }, shift }
 }
 
 const fn listed(shift: u32, values: &'static [u32]) -> Field {
@@ -117,13 +127,17 @@ const fn writable() -> &'static [u32] {
 }
 
 const RT: Field = listed(21, &REGISTERS);
+/// The first register of a pair.
+const DT: Field = listed(21, &PAIRS);
 const RA: Field = listed(16, &REGISTERS);
 const RB: Field = listed(11, &REGISTERS);
 /// RA of an update form.
 const BASE: Field = listed(16, nonzero());
 const OE: Field = any(10, 1);
 const RC: Field = any(0, 1);
-const IMMEDIATE: Field = Field { values: Values::Offset { width: 16 }, shift: 0 };
+const IMMEDIATE: Field = offset(0, 16, 4);
+/// D of a doubleword, which is served at multiples of eight alone.
+const D_8: Field = offset(0, 16, 8);
 const SH: Field = any(11, 5);
 const MB: Field = any(6, 5);
 const ME: Field = any(1, 5);
@@ -132,8 +146,8 @@ const BO_0_1: Field = any(24, 2);
 const BO_3_4: Field = any(21, 2);
 const BI: Field = any(16, 2);
 const BH: Field = any(11, 2);
-const BD: Field = Field { values: Values::Offset { width: 14 }, shift: 2 };
-const LI: Field = Field { values: Values::Offset { width: 24 }, shift: 2 };
+const BD: Field = offset(2, 14, 4);
+const LI: Field = offset(2, 24, 4);
 const AA: Field = any(1, 1);
 const LK: Field = any(0, 1);
 const TO: Field = listed(21, &[0, 31]);
@@ -150,14 +164,20 @@ const LOGIC: &[Field] = &[RT, RA, RB, RC];
 const UNARY: &[Field] = &[RT, RA, RC];
 const DISPLACED: &[Field] = &[RT, RA, IMMEDIATE];
 const UPDATING: &[Field] = &[RT, BASE, IMMEDIATE];
+const DISPLACED_PAIR: &[Field] = &[DT, RA, D_8];
+const UPDATING_PAIR: &[Field] = &[DT, BASE, D_8];
 const INDEXED: &[Field] = &[RT, RA, RB];
 
 const fn form(mnemonic: &'static str, fixed: u32, fields: &'static [Field]) -> Form {
-    Form { mnemonic, fixed, fields, distinct: false }
+    Form { mnemonic, fixed, fields, apart: 0 }
 }
 
 const fn updating_load(mnemonic: &'static str, opcode: u32) -> Form {
-    Form { mnemonic, fixed: primary(opcode), fields: UPDATING, distinct: true }
+    Form { mnemonic, fixed: primary(opcode), fields: UPDATING, apart: 1 }
+}
+
+const fn updating_pair_load(mnemonic: &'static str, opcode: u32) -> Form {
+    Form { mnemonic, fixed: primary(opcode), fields: UPDATING_PAIR, apart: 2 }
 }
 
 const fn primary(opcode: u32) -> u32 {
@@ -168,8 +188,8 @@ const fn extended(opcode: u32, extended: u32) -> u32 {
     opcode << 26 | extended << 1
 }
 
-/// The 83 instructions, in the order of the manual's 9.4.
-pub const FORMS: [Form; 83] = [
+/// The 87 instructions, in the order of the manual's 9.4.
+pub const FORMS: [Form; 87] = [
     form("add", extended(31, 266), SUM),
     form("addc", extended(31, 10), SUM),
     form("adde", extended(31, 138), SUM),
@@ -205,6 +225,8 @@ pub const FORMS: [Form; 83] = [
     form("lhz", primary(40), DISPLACED),
     updating_load("lhzu", 41),
     form("lhzx", extended(31, 279), INDEXED),
+    form("lvd", primary(5), DISPLACED_PAIR),
+    updating_pair_load("lvdu", 9),
     form("lwz", primary(32), DISPLACED),
     updating_load("lwzu", 33),
     form("lwzx", extended(31, 23), INDEXED),
@@ -237,6 +259,8 @@ pub const FORMS: [Form; 83] = [
     form("sth", primary(44), DISPLACED),
     form("sthu", primary(45), UPDATING),
     form("sthx", extended(31, 407), INDEXED),
+    form("stvd", primary(6), DISPLACED_PAIR),
+    form("stvdu", primary(22), UPDATING_PAIR),
     form("stw", primary(36), DISPLACED),
     form("stwu", primary(37), UPDATING),
     form("stwx", extended(31, 151), INDEXED),

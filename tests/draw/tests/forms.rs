@@ -5,7 +5,7 @@ use second::{Kind, Word};
 
 #[test]
 fn the_forms_have_as_many_words_as_are_legal() {
-    assert_eq!(FORMS.iter().map(|form| form.count()).sum::<u64>(), 496_438_820);
+    assert_eq!(FORMS.iter().map(|form| form.count()).sum::<u64>(), 551_620_132);
 }
 
 #[test]

@@ -81,6 +81,8 @@ impl Core {
             Lbzu => self.load_with_update::<1>(word, memory)?,
             Lhzu => self.load_with_update::<2>(word, memory)?,
             Lwzu => self.load_with_update::<4>(word, memory)?,
+            Lvd => self.set_pair(word, memory::load_doubleword(memory, self.displaced(word))?),
+            Lvdu => self.load_pair_with_update(word, memory)?,
             Stb => memory::store::<1>(memory, self.displaced(word), s)?,
             Sth => memory::store::<2>(memory, self.displaced(word), s)?,
             Stw => memory::store::<4>(memory, self.displaced(word), s)?,
@@ -90,6 +92,8 @@ impl Core {
             Stbu => self.store_with_update::<1>(word, memory)?,
             Sthu => self.store_with_update::<2>(word, memory)?,
             Stwu => self.store_with_update::<4>(word, memory)?,
+            Stvd => memory::store_doubleword(memory, self.displaced(word), self.pair(word))?,
+            Stvdu => self.store_pair_with_update(word, memory)?,
             Dcbz => memory::clear_block(memory, self.indexed(word))?,
             Dcbf | Dcbi | Dcbt | Sync => {}
 
@@ -208,6 +212,30 @@ impl Core {
     fn store_with_update<const SIZE: u32>(&mut self, word: Word, memory: &mut [u8]) -> Result<(), Fault> {
         let address = self.displaced(word);
         memory::store::<SIZE>(memory, address, self.gpr[word.rt()])?;
+        self.gpr[word.ra()] = address;
+        Ok(())
+    }
+
+    /// (DS), its high-order half in the first register (8.4).
+    fn pair(&self, word: Word) -> u64 {
+        (self.gpr[word.rt()] as u64) << 32 | self.gpr[word.rt_low()] as u64
+    }
+
+    fn set_pair(&mut self, word: Word, value: u64) {
+        self.gpr[word.rt()] = (value >> 32) as u32;
+        self.gpr[word.rt_low()] = value as u32;
+    }
+
+    fn load_pair_with_update(&mut self, word: Word, memory: &[u8]) -> Result<(), Fault> {
+        let address = self.displaced(word);
+        self.set_pair(word, memory::load_doubleword(memory, address)?);
+        self.gpr[word.ra()] = address;
+        Ok(())
+    }
+
+    fn store_pair_with_update(&mut self, word: Word, memory: &mut [u8]) -> Result<(), Fault> {
+        let address = self.displaced(word);
+        memory::store_doubleword(memory, address, self.pair(word))?;
         self.gpr[word.ra()] = address;
         Ok(())
     }

@@ -41,6 +41,17 @@ pub fn store<const SIZE: u32>(memory: &mut [u8], address: u32, value: u32) -> Re
     Ok(())
 }
 
+pub fn load_doubleword(memory: &[u8], address: u32) -> Result<u64, Fault> {
+    let at = place::<8>(memory, address, false)?;
+    Ok(u64::from_be_bytes(*memory[at..].first_chunk().expect("memory is whole blocks")))
+}
+
+pub fn store_doubleword(memory: &mut [u8], address: u32, value: u64) -> Result<(), Fault> {
+    let at = place::<8>(memory, address, true)?;
+    memory[at..at + 8].copy_from_slice(&value.to_be_bytes());
+    Ok(())
+}
+
 /// Where the block that has this address begins.
 pub fn block_of(address: u32) -> u32 {
     address - address % BLOCK

@@ -65,9 +65,11 @@ impl Core {
             Lbz | Lbzu | Lbzx => (1, false),
             Lhz | Lhzu | Lhzx => (2, false),
             Lwz | Lwzu | Lwzx => (4, false),
+            Lvd | Lvdu => (8, false),
             Stb | Stbu | Stbx => (1, true),
             Sth | Sthu | Sthx => (2, true),
             Stw | Stwu | Stwx => (4, true),
+            Stvd | Stvdu => (8, true),
             Dcbz => (memory::BLOCK, true),
             _ => return None,
         };

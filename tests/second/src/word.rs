@@ -4,12 +4,12 @@ use crate::registers::GPRS;
 
 macro_rules! kinds {
     ($($kind:ident $mnemonic:literal),* $(,)?) => {
-        /// The 83 instructions of the manual's 9.4 that the bench core plays.
+        /// The 87 instructions of the manual's 9.4 that the bench core plays.
         #[derive(Clone, Copy, Debug, PartialEq, Eq)]
         pub enum Kind { $($kind),* }
 
         impl Kind {
-            pub const ALL: [Kind; 83] = [$(Kind::$kind),*];
+            pub const ALL: [Kind; 87] = [$(Kind::$kind),*];
 
             pub fn mnemonic(self) -> &'static str {
                 match self { $(Kind::$kind => $mnemonic),* }
@@ -24,11 +24,13 @@ kinds! {
     B "b", Bc "bc", Bcctr "bcctr", Bclr "bclr",
     Cmplw "cmplw", Cmplwi "cmplwi", Cmpw "cmpw", Cmpwi "cmpwi", Cntlzw "cntlzw",
     Dcbf "dcbf", Dcbi "dcbi", Dcbt "dcbt", Dcbz "dcbz", Eqv "eqv", Extsb "extsb", Extsh "extsh",
-    Lbz "lbz", Lbzu "lbzu", Lbzx "lbzx", Lhz "lhz", Lhzu "lhzu", Lhzx "lhzx", Lwz "lwz", Lwzu "lwzu", Lwzx "lwzx",
+    Lbz "lbz", Lbzu "lbzu", Lbzx "lbzx", Lhz "lhz", Lhzu "lhzu", Lhzx "lhzx", Lvd "lvd", Lvdu "lvdu",
+    Lwz "lwz", Lwzu "lwzu", Lwzx "lwzx",
     Mfcr "mfcr", Mfmsr "mfmsr", Mfspr "mfspr", Mtcr0 "mtcr0", Mtmsr "mtmsr", Mtspr "mtspr",
     Mullhw "mullhw", Mullhwu "mullhwu", Nand "nand", Neg "neg", Nor "nor", Or "or", Orc "orc", Ori "ori", Oris "oris",
     Rfi "rfi", Rlwimi "rlwimi", Rlwinm "rlwinm", Rlwnm "rlwnm", Slw "slw", Sraw "sraw", Srawi "srawi", Srw "srw",
-    Stb "stb", Stbu "stbu", Stbx "stbx", Sth "sth", Sthu "sthu", Sthx "sthx", Stw "stw", Stwu "stwu", Stwx "stwx",
+    Stb "stb", Stbu "stbu", Stbx "stbx", Sth "sth", Sthu "sthu", Sthx "sthx", Stvd "stvd", Stvdu "stvdu",
+    Stw "stw", Stwu "stwu", Stwx "stwx",
     Subf "subf", Subfc "subfc", Subfe "subfe", Subfic "subfic", Subfme "subfme", Subfze "subfze",
     Sync "sync", Tw "tw", Wrtee "wrtee", Wrteei "wrteei", Xor "xor", Xori "xori", Xoris "xoris",
 }
@@ -91,9 +93,14 @@ impl Word {
         self.field(place, place) == 1
     }
 
-    /// RT or RS.
+    /// RT or RS; of DT or DS the high-order register.
     pub fn rt(self) -> usize {
         self.field(6, 10) as usize
+    }
+
+    /// The low-order register of DT or DS: the next one, and 0 after 31 (8.4).
+    pub fn rt_low(self) -> usize {
+        (self.rt() + 1) % 32
     }
 
     pub fn ra(self) -> usize {
@@ -174,12 +181,16 @@ impl Word {
         self.flag(16)
     }
 
-    /// The instruction that the word is, or nothing if it is illegal.
+    /// The instruction that the word is, or nothing if it is illegal. Primary opcodes 5, 6, 9 and 22 are those of
+    /// Table 1.68, the others Power ISA's.
     pub fn kind(self) -> Option<Kind> {
         use Kind::*;
         let (kind, valid) = match self.field(0, 5) {
             4 => return self.kind_of_4(),
+            5 => (Lvd, self.two() && self.paired()),
+            6 => (Stvd, self.two() && self.paired()),
             8 => (Subfic, self.two()),
+            9 => (Lvdu, self.updating_load() && self.paired() && self.ra() != self.rt_low()),
             10 => (Cmplwi, self.compares() && self.defined(11)),
             11 => (Cmpwi, self.compares() && self.defined(11)),
             12 => (Addic, self.two()),
@@ -191,6 +202,7 @@ impl Word {
             19 => return self.kind_of_19(),
             20 => (Rlwimi, self.two()),
             21 => (Rlwinm, self.two()),
+            22 => (Stvdu, self.updating_store() && self.paired()),
             23 => (Rlwnm, self.three()),
             24 => (Ori, self.two()),
             25 => (Oris, self.two()),
@@ -298,6 +310,11 @@ impl Word {
 
     fn two(self) -> bool {
         self.defined(6) && self.defined(11)
+    }
+
+    /// The register after RT is defined as well, so that RT designates a pair (Table 1.33).
+    fn paired(self) -> bool {
+        DEFINED >> self.rt_low() & 1 == 1
     }
 
     /// RA and RB are defined.

@@ -3,8 +3,8 @@
 mod common;
 
 use common::*;
-use second::registers::{bit, cr, dbcr, isr, msr, tcr, tsr, xer};
-use second::{Asynchronous, Core, Fault, Outcome, Taken};
+use second::registers::{bit, cr, dbcr, isr, msr, tcr, tsr, xer, GPRS};
+use second::{Asynchronous, Core, Fault, Kind, Outcome, Taken, Word};
 
 fn step(core: &mut Core, words: &[u32], event: u8) -> Outcome {
     core.step(&mut memory(words, 512), event)
@@ -113,11 +113,14 @@ fn plain_faults() {
 #[test]
 fn promoted_and_halting_faults() {
     let (outside, unaligned) = (d_form(32, 3, 0, 0x200), d_form(36, 3, 0, 2));
+    let (pair_outside, pair_unaligned) = (d_form(STVDU, 3, 4, 0x200), d_form(LVDU, 5, 4, 4));
     let cases = [
         (TRAP, 4, 0x0E0, TRAP, isr::PTR | isr::ST),
         (ILLEGAL, 4, 0x0E0, ILLEGAL, isr::ST),
         (unaligned, 6, 0x0C0, 2, isr::PTR | isr::ST),
         (outside, 7, 0x060, 0x200, isr::PTR),
+        (pair_unaligned, 6, 0x0C0, 4, isr::PTR),
+        (pair_outside, 7, 0x060, 0x200, isr::PTR | isr::ST),
     ];
     for (word, status, vector, edr, kept) in cases {
         let mut promoted = zeroed();
@@ -311,4 +314,151 @@ fn fetch_outside() {
     let mut core = core();
     core.run(&mut memory(&[0x4800_0200], 64), &[], 2);
     assert_eq!((core.iar, core.srr0, core.edr, core.isr), (0x080, 0x200, 0, 0));
+}
+
+/// Table 1.33 and the restrictions of 9.4.46, 9.4.47 and 9.4.90, for all values of both fields.
+#[test]
+fn virtual_doubleword_words() {
+    for (rt, ra) in (0..32).flat_map(|rt| (0..32).map(move |ra| (rt, ra))) {
+        let plain = matches!(rt, 0..=9 | 28..=31) && matches!(ra, 0..=10 | 13 | 28..=31);
+        let in_pair = ra == rt || ra == rt + 1 || (rt, ra) == (31, 0);
+        let cases = [
+            (LVD, plain, Kind::Lvd),
+            (LVDU, plain && ra != 0 && !in_pair, Kind::Lvdu),
+            (STVD, plain, Kind::Stvd),
+            (STVDU, plain && ra != 0, Kind::Stvdu),
+        ];
+        for (opcode, legal, kind) in cases {
+            for displacement in [0, 0x7FFF, 0x8001] {
+                let word = Word(d_form(opcode, rt, ra, displacement));
+                assert_eq!(word.kind(), legal.then_some(kind), "{:08X}", word.0);
+            }
+        }
+    }
+    for (extended, rc) in [(17, 0), (17, 1), (145, 0), (145, 1)] {
+        assert!(!second::legal(x_form(28, 3, 4, extended, rc)), "lvdx and stvdx are left out");
+    }
+}
+
+/// Bytes of memory for one word and its doubleword.
+const M: u32 = 0x100;
+
+/// A core and its memory, before and after the word at 0.
+struct Doubleword {
+    start: Core,
+    before: Vec<u8>,
+    end: Core,
+    after: Vec<u8>,
+}
+
+/// r4 is the base; the other registers and the bytes after the word tell their own numbers. DEC stands still.
+fn doubleword(word: u32, base: u32) -> Doubleword {
+    let mut start = Core { tcr: tcr::DS, isr: isr::PTR, ..core() };
+    for number in GPRS {
+        start.gpr[number] = 0xA0B0_C000 + number as u32;
+    }
+    start.gpr[4] = base;
+    let before: Vec<u8> = word.to_be_bytes().into_iter().chain(4..=(M - 1) as u8).collect();
+    let (mut end, mut after) = (start.clone(), before.clone());
+    end.step(&mut after, 0);
+    Doubleword { start, before, end, after }
+}
+
+impl Doubleword {
+    /// It was executed, and changed these registers and these bytes, and no others.
+    fn changed(self, registers: &[(usize, u32)], at: usize, bytes: &[u8]) {
+        let (mut core, mut memory) = (Core { iar: 4, ..self.start }, self.before);
+        for (number, value) in registers {
+            core.gpr[*number] = *value;
+        }
+        memory[at..at + bytes.len()].copy_from_slice(bytes);
+        assert_eq!((self.end, self.after), (core, memory));
+    }
+
+    /// It faulted, and only what the interrupt sets is changed.
+    fn faulted(self, vector: u32, address: u32, status: u32) {
+        let srr1 = self.start.msr;
+        let core = Core { iar: vector, srr1, msr: msr::ME, edr: address, isr: isr::PTR | status, ..self.start };
+        assert_eq!((self.end, self.after), (core, self.before));
+    }
+}
+
+/// 8.4, 9.4.46, 9.4.90: the high-order word is in the first register and first in memory; 31 pairs with 0.
+#[test]
+fn virtual_doubleword_registers() {
+    for (high, low) in [(0, 1), (8, 9), (9, 10), (28, 29), (30, 31), (31, 0)] {
+        let loaded = [(high, 0x4041_4243), (low, 0x4445_4647)];
+        doubleword(d_form(LVD, high as u32, 4, 0x10), 0x30).changed(&loaded, 0, &[]);
+        let stored = [0xA0, 0xB0, 0xC0, high as u8, 0xA0, 0xB0, 0xC0, low as u8];
+        doubleword(d_form(STVD, high as u32, 4, 0x10), 0x30).changed(&[], 0x40, &stored);
+    }
+}
+
+/// 9.4.46, 9.4.47, 9.4.90: the address, which goes round 2^32, and a base of 0; the update forms leave it in RA.
+#[test]
+fn virtual_doubleword_addresses() {
+    for (base, displacement) in [(0x80, 0), (0x88, 0xFFF8), (0xFFFF_FF88, 0xF8), (0x8080, 0x8000)] {
+        let (loaded, stored) = ([(9, 0x8081_8283), (10, 0x8485_8687)], [0xA0, 0xB0, 0xC0, 9, 0xA0, 0xB0, 0xC0, 10]);
+        doubleword(d_form(LVD, 9, 4, displacement), base).changed(&loaded, 0, &[]);
+        doubleword(d_form(STVD, 9, 4, displacement), base).changed(&[], 0x80, &stored);
+        let updated = [loaded[0], loaded[1], (4, 0x80)];
+        doubleword(d_form(LVDU, 9, 4, displacement), base).changed(&updated, 0, &[]);
+        doubleword(d_form(STVDU, 9, 4, displacement), base).changed(&updated[2..], 0x80, &stored);
+    }
+    doubleword(d_form(LVD, 5, 0, 0x80), 0).changed(&[(5, 0x8081_8283), (6, 0x8485_8687)], 0, &[]);
+    doubleword(d_form(STVD, 5, 0, 0x80), 0).changed(&[], 0x80, &[0xA0, 0xB0, 0xC0, 5, 0xA0, 0xB0, 0xC0, 6]);
+    doubleword(d_form(LVD, 31, 0, 0x80), 0).changed(&[(31, 0x8081_8283), (0, 0x8485_8687)], 0, &[]);
+}
+
+/// lvd loads over its base, whose address was formed before; stvd and stvdu store the base as it was.
+#[test]
+fn virtual_doublewords_of_their_base() {
+    doubleword(d_form(LVD, 4, 4, 8), 0x40).changed(&[(4, 0x4849_4A4B), (5, 0x4C4D_4E4F)], 0, &[]);
+    doubleword(d_form(LVD, 3, 4, 8), 0x40).changed(&[(3, 0x4849_4A4B), (4, 0x4C4D_4E4F)], 0, &[]);
+    doubleword(d_form(LVD, 4, 4, 8), M - 8).faulted(0x060, M, 0);
+    for (opcode, updated) in [(STVD, &[][..]), (STVDU, &[(4, 0x48)])] {
+        doubleword(d_form(opcode, 4, 4, 8), 0x40).changed(updated, 0x48, &[0, 0, 0, 0x40, 0xA0, 0xB0, 0xC0, 5]);
+        doubleword(d_form(opcode, 3, 4, 8), 0x40).changed(updated, 0x48, &[0xA0, 0xB0, 0xC0, 3, 0, 0, 0, 0x40]);
+    }
+}
+
+/// Tables 1.16 and 1.20: all eight bytes or none, and both registers and RA as they were.
+#[test]
+fn virtual_doubleword_faults() {
+    let unaligned = (1..8).flat_map(|off| [0x40 + off, M - off, M + off, off.wrapping_neg()]);
+    let outside = [M, M + 8, 0x8000_0000, 0xFFFF_FFF8];
+    for (opcode, status) in [(LVD, 0), (LVDU, 0), (STVD, isr::ST), (STVDU, isr::ST)] {
+        let word = d_form(opcode, 9, 4, 8);
+        unaligned.clone().for_each(|at| doubleword(word, at.wrapping_sub(8)).faulted(0x0C0, at, status));
+        outside.into_iter().for_each(|at| doubleword(word, at.wrapping_sub(8)).faulted(0x060, at, status));
+    }
+}
+
+/// The last eight bytes are inside: of this memory, and of the smallest there is.
+#[test]
+fn the_last_virtual_doubleword() {
+    let loaded = [(9, 0xF8F9_FAFB), (10, 0xFCFD_FEFF), (4, M - 8)];
+    doubleword(d_form(LVDU, 9, 4, 8), M - 16).changed(&loaded, 0, &[]);
+    let stored = [0xA0, 0xB0, 0xC0, 28, 0xA0, 0xB0, 0xC0, 29];
+    doubleword(d_form(STVD, 28, 4, 8), M - 16).changed(&[], M as usize - 8, &stored);
+    let mut memory = memory(&[d_form(STVD, 0, 0, 24)], 32);
+    let mut core = core();
+    (core.gpr[0], core.gpr[1]) = (0x0123_4567, 0x89AB_CDEF);
+    core.step(&mut memory, 0);
+    assert_eq!((core.iar, &memory[16..]), (4, &0x0123_4567_89AB_CDEF_u128.to_be_bytes()[..]));
+}
+
+/// 9.4.32's example copies a cache block with four pairs of lvdu and stvdu.
+#[test]
+fn a_block_copied_by_doublewords() {
+    let copy = [d_form(LVDU, 28, 3, 8), d_form(STVDU, 28, 4, 8)].repeat(4);
+    let mut memory = memory(&copy, 128);
+    memory[64..96].copy_from_slice(&std::array::from_fn::<u8, 32, _>(|i| i as u8 + 1));
+    let block = memory[64..96].to_vec();
+    let mut core = core();
+    (core.gpr[3], core.gpr[4]) = (64 - 8, 96 - 8);
+    assert_eq!(core.run(&mut memory, &[], 8), 8);
+    assert_eq!((&memory[64..96], &memory[96..]), (&block[..], &block[..]));
+    assert_eq!((core.gpr[3], core.gpr[4], core.iar), (64 + 24, 96 + 24, 32));
+    assert_eq!((core.gpr[28], core.gpr[29]), (0x191A_1B1C, 0x1D1E_1F20));
 }

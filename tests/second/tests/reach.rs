@@ -53,11 +53,15 @@ fn reaches_at(address: u32, word: u32) -> bool {
 
 #[test]
 fn loads_and_stores() {
-    let accesses =
-        [(1, [34, 35, 38, 39], [87, 215]), (2, [40, 41, 44, 45], [279, 407]), (4, [32, 33, 36, 37], [23, 151])];
+    let accesses = [
+        (1, [34, 35, 38, 39], &[87, 215][..]),
+        (2, [40, 41, 44, 45], &[279, 407]),
+        (4, [32, 33, 36, 37], &[23, 151]),
+        (8, [LVD, LVDU, STVD, STVDU], &[]),
+    ];
     for (size, displaced, indexed) in accesses {
-        let displaced = displaced.map(|opcode| d_form(opcode, 3, 4, 0));
-        let indexed = indexed.map(|extended| x_form(3, 0, 4, extended, 0));
+        let displaced = displaced.map(|opcode| d_form(opcode, 5, 4, 0));
+        let indexed = indexed.iter().map(|extended| x_form(5, 0, 4, *extended, 0));
         for word in displaced.into_iter().chain(indexed) {
             assert!(!reaches_at(M - size, word), "{word:08X} at the end");
             assert!(reaches_at(M, word), "{word:08X} past it");
@@ -139,7 +143,8 @@ fn however_the_interrupt_is_taken() {
 
 #[test]
 fn other_faults_and_halts() {
-    for word in [TRAP, ILLEGAL, d_form(32, 11, 0, M), d_form(33, 3, 0, M)] {
+    let pairs = [d_form(LVD, 10, 0, M), d_form(LVDU, 3, 4, M), d_form(STVDU, 3, 0, M)];
+    for word in [TRAP, ILLEGAL, d_form(32, 11, 0, M), d_form(33, 3, 0, M)].into_iter().chain(pairs) {
         assert!(!reaches(&core(), &[word], 1), "{word:08X}");
     }
     let mut stopping = core();

@@ -88,6 +88,8 @@ fn however_a_fault_is_taken() {
         let start = Core { msr: bits, ..zeroed() };
         assert_eq!(asked(&start, d_form(40, 3, 0, M), 0), (DATA_STORAGE, 2 << 32 | M as u64));
         assert_eq!(asked(&start, d_form(40, 3, 0, M + 1), 0), (ALIGNMENT, (2 << 32) | (M as u64 + 1)));
+        assert_eq!(asked(&start, d_form(LVD, 3, 0, M), 0), (DATA_STORAGE, 8 << 32 | M as u64));
+        assert_eq!(asked(&start, d_form(STVDU, 3, 4, M + 4), 0), (ALIGNMENT, 1 << 63 | 8 << 32 | (M as u64 + 4)));
         assert_eq!(asked(&start, ILLEGAL, 0), (ILLEGAL_WORD, 0));
         assert_eq!(asked(&start, TRAP, 0), (TRAPPED, 0));
     }
@@ -108,7 +110,7 @@ fn what_halts_without_a_fault_is_executed() {
 /// The access told for the word is the one that its step makes, as memory or EDR and ISR[ST] show.
 fn access_shows(word: u32, address: u32, expected: Access) {
     let mut start = core();
-    (start.gpr[3], start.gpr[4]) = (0x1122_3344, address);
+    (start.gpr[5], start.gpr[6], start.gpr[4]) = (0x1122_3344, 0x5566_7788, address);
     let before = [word.to_be_bytes().to_vec(), vec![0xEE; M as usize - 4]].concat();
     assert_eq!(start.access(&before, 0), Some(expected), "{word:08X} at {address:X}");
     let (mut end, mut after) = (start.clone(), before.clone());
@@ -118,7 +120,8 @@ fn access_shows(word: u32, address: u32, expected: Access) {
             let written: Vec<u32> = (expected.address..expected.address + expected.bytes).collect();
             assert_eq!(changed, written, "{word:08X} at {address:X}");
         }
-        EXECUTES => assert_eq!(end.gpr[3], 0xEEEE_EEEE_u32 >> (32 - 8 * expected.bytes)),
+        EXECUTES if expected.bytes == 8 => assert_eq!(end.gpr[5..7], [0xEEEE_EEEE; 2]),
+        EXECUTES => assert_eq!(end.gpr[5..7], [0xEEEE_EEEE_u32 >> (32 - 8 * expected.bytes), 0x5566_7788]),
         DATA_STORAGE | ALIGNMENT => {
             assert_eq!((end.edr, end.isr & isr::ST != 0), (address, expected.writes), "{word:08X}");
         }
@@ -133,11 +136,16 @@ fn accesses_of_every_width() {
     for (bytes, loads, indexed_load, stores, indexed_store) in accesses {
         for address in [0x100, 0x101, 0x102, M - bytes, M, M + 1, u32::MAX] {
             for (displaced, indexed, writes) in [(loads, indexed_load, false), (stores, indexed_store, true)] {
-                let displaced = displaced.map(|opcode| d_form(opcode, 3, 4, 0));
-                for word in [displaced[0], displaced[1], x_form(3, 0, 4, indexed, 0)] {
+                let displaced = displaced.map(|opcode| d_form(opcode, 5, 4, 0));
+                for word in [displaced[0], displaced[1], x_form(5, 0, 4, indexed, 0)] {
                     access_shows(word, address, Access { address, bytes, writes });
                 }
             }
+        }
+    }
+    for (opcode, writes) in [(LVD, false), (LVDU, false), (STVD, true), (STVDU, true)] {
+        for address in [0x100, 0x104, M - 8, M - 4, M, M + 4, u32::MAX - 7, u32::MAX] {
+            access_shows(d_form(opcode, 5, 4, 0), address, Access { address, bytes: 8, writes });
         }
     }
     for address in [0x100, 0x11F, 0x121, M - 1, M, M + 31, u32::MAX] {
@@ -153,7 +161,8 @@ fn the_other_instructions_access_nothing() {
     for word in quiet.into_iter().chain([NOP, BRANCH_TO_ITSELF, RFI, mtspr(8, 4), d_form(14, 3, 4, 0)]) {
         assert_eq!(asked(&start, word, 0), (EXECUTES, 0), "{word:08X}");
     }
-    for word in [d_form(33, 4, 4, 0), d_form(37, 3, 0, 0x100), d_form(32, 11, 4, 0)] {
+    let pairs = [d_form(LVD, 10, 4, 0), d_form(LVDU, 3, 4, 0), d_form(STVDU, 3, 0, 0x100), x_form(28, 0, 4, 17, 0)];
+    for word in [d_form(33, 4, 4, 0), d_form(37, 3, 0, 0x100), d_form(32, 11, 4, 0)].into_iter().chain(pairs) {
         assert_eq!(asked(&start, word, 0), (ILLEGAL_WORD, 0), "{word:08X}");
     }
 }

@@ -21,12 +21,13 @@ const IAR: usize = 34;
 const WORDS: usize = 36;
 
 /// Left out: what is the PPE 42's own or looks at a state that the 405 does not share.
-const LEFT_OUT: [&str; 7] = [
+const LEFT_OUT: [&str; 11] = [
     "mfmsr", "mtmsr", // the two MSRs share few fields
     "rfi",   // it restores such an MSR
     "wrtee", "wrteei", // MSR[EE] is seen through mfmsr alone
     "tw",     // trap enters the 405's own vector; other TO are illegal here
     "dcbi",   // privileged; it changes no byte here
+    "lvd", "lvdu", "stvd", "stvdu", // the 405 has no virtual doublewords
 ];
 
 /// SPRs that both cores have with the same meaning: XER, LR, CTR.

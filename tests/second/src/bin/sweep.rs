@@ -3,7 +3,7 @@
 use std::process::ExitCode;
 use std::thread;
 
-const LEGAL: u64 = 496_438_820;
+const LEGAL: u64 = 551_620_132;
 
 fn main() -> ExitCode {
     let workers = thread::available_parallelism().map_or(1, |n| n.get() as u64);

@@ -43,6 +43,12 @@ pub fn x_form(rt: u32, ra: u32, rb: u32, extended: u32, rc: u32) -> u32 {
 /// Added to an extended opcode.
 pub const OE: u32 = 512;
 
+/// Primary opcodes of the virtual doublewords (Table 1.68).
+pub const LVD: u32 = 5;
+pub const LVDU: u32 = 9;
+pub const STVD: u32 = 6;
+pub const STVDU: u32 = 22;
+
 pub fn mtspr(number: u32, rs: u32) -> u32 {
     x_form(rs, number & 31, number >> 5, 467, 0)
 }

@@ -1,7 +1,7 @@
--- `memory::access::block_access` meets its contract: a block is aligned, so it is inside or outside. Assumes nothing.
+-- `memory::access::block_access` meets its contract: a block is aligned. Assumes nothing.
 use Prim.Native.Nat.{_*_, _/_, _%_}
 use Rattle.memory.specs.Access.{accessOf}
-use borrow.Author.Tests.{le-leb, lt-leb, eq-eqb}
+use borrow.Author.Tests.{eq-eqb}
 use native.Mathlib.Omega.{arith}
 use borrow.Author.Needs.{needs}
 use Rattle.memory.proofs.access.block_access.Statement.{statement}
@@ -15,5 +15,5 @@ block-access-spec =
     (λ c. search needs)
     (λ c. search needs)
     (λ c. search needs)
-    (λ c. simp (eq-eqb (c .before .args .address / 32 * 32 % 32) 0 (omega arith), le-leb _ _ (c .if1 .taken)))
-    (λ c. simp (eq-eqb (c .before .args .address / 32 * 32 % 32) 0 (omega arith), lt-leb _ _ (c .if1 .left))))
+    (λ c κs. search needs)
+    (λ c. rw (c .judged .ensures, eq-eqb (c .before .args .address / 32 * 32 % 32) 0 (omega arith))))

@@ -17,4 +17,4 @@ cache-raises-spec =
     (λ c. rw (c .enum-told .given .1))
     (λ c. rw (c .enum-told2 .given .1))
     (λ c. rw (c .enum-told3 .given .1))
-    (λ c. rw (c .before .before .before .enum-told4 .given .1, c .store-raises .ensures, c .before .block-access .ensures, c .before .before .indexed-ea .ensures)))
+    (λ c. rw (c .before .before .before .enum-told4 .given .1, c .access-raises .ensures, c .before .block-access .ensures, c .before .before .indexed-ea .ensures)))
