@@ -6,6 +6,8 @@ pub struct Loop {
     code: &'static [u32],
     registers: &'static [(usize, u32)],
     tcr: u32,
+    /// Whether Unicorn's 405 has these instructions.
+    pub on_405: bool,
 }
 
 /// TCR[DIE]: the decrementer's interrupt enabled.
@@ -20,6 +22,7 @@ pub const ARITHMETIC: Loop = Loop {
     ],
     registers: &[(3, 0x1234_5678), (4, 0x8765_4321)],
     tcr: 0,
+    on_405: true,
 };
 
 pub const MEMORY: Loop = Loop {
@@ -28,6 +31,7 @@ pub const MEMORY: Loop = Loop {
     code: &[0x80600100, 0x38630001, 0x90600100, 0xA0800102, 0xB0800104, 0x88A00103, 0x7CA639AE, 0x7D06382E, 0x4BFFFFE0],
     registers: &[(6, 0x200), (7, 0x40)],
     tcr: 0,
+    on_405: true,
 };
 
 pub const BRANCHES: Loop = Loop {
@@ -39,6 +43,7 @@ pub const BRANCHES: Loop = Loop {
     ],
     registers: &[],
     tcr: 0,
+    on_405: true,
 };
 
 pub const LEDGER: Loop = Loop {
@@ -50,6 +55,16 @@ pub const LEDGER: Loop = Loop {
     ],
     registers: &[],
     tcr: 0,
+    on_405: true,
+};
+
+pub const DOUBLEWORD: Loop = Loop {
+    name: "doubleword",
+    // stvd r3,256(0); stvd r31,264(0); addi r3,r3,1; lvd r5,256(0); lvd r31,264(0); b 0
+    code: &[0x18600100, 0x1BE00108, 0x38630001, 0x14A00100, 0x17E00108, 0x4BFFFFEC],
+    registers: &[],
+    tcr: 0,
+    on_405: false,
 };
 
 /// The same in a core that has to look for an interrupt in every step; MSR[EE] masks it.

@@ -8,8 +8,8 @@ mod everyday;
 mod loops;
 mod players;
 
-use loops::{Loop, ARITHMETIC, BRANCHES, ENABLED, LEDGER, MEMORY};
-use players::PLAYERS;
+use loops::{Loop, ARITHMETIC, BRANCHES, DOUBLEWORD, ENABLED, LEDGER, MEMORY};
+use players::{OURS, PLAYERS};
 
 const RUNS: u32 = 20;
 /// Few enough that some run goes undisturbed on a busy machine.
@@ -42,7 +42,7 @@ fn main() {
         "Unicorn/second",
     ];
     show(heads.map(String::from));
-    for each in [ARITHMETIC, MEMORY, BRANCHES, LEDGER, ENABLED] {
+    for each in [ARITHMETIC, MEMORY, BRANCHES, LEDGER, ENABLED, DOUBLEWORD] {
         measure(&each, SIZE, STEPS, runs);
     }
     for size in [1 << 16, 1 << 20] {
@@ -78,10 +78,11 @@ fn measure(each: &Loop, size: usize, steps: u32, runs: u32) {
 /// The least seconds of each player. They take turns, so that they meet the same machine, and must end alike.
 fn best(each: &Loop, size: usize, steps: u32, runs: u32) -> Vec<f64> {
     let start = each.start(size);
-    let mut best = vec![f64::INFINITY; PLAYERS.len()];
+    let players = if each.on_405 { PLAYERS } else { &PLAYERS[..OURS] };
+    let mut best = vec![f64::INFINITY; players.len()];
     for _ in 0..runs {
         let mut end = None;
-        for (best, play) in best.iter_mut().zip(PLAYERS) {
+        for (best, play) in best.iter_mut().zip(players) {
             let mut state = start.clone();
             *best = best.min(play(&mut state, steps));
             assert!(*end.get_or_insert_with(|| state.clone()) == state, "the players differ after {}", each.name);

@@ -10,6 +10,9 @@ const TCR: usize = 4 * 31;
 /// Plays so many steps from address 0, and answers the seconds that they took.
 pub type Player = fn(&mut State, u32) -> f64;
 
+/// How many play all that the PPE 42 has; they come first.
+pub const OURS: usize = 4;
+
 pub const PLAYERS: &[Player] = &[
     |state, steps| play(LINKED.run, state, steps),
     |state, steps| play(LINKED.run_inside, state, steps),
