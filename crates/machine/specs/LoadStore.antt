@@ -60,7 +60,7 @@ storeAt s m w rs ea update ra =
       past = reachesPast (accessOf (length m) ea (bytes w));
     }
 
--- the doubleword in DT, or the interrupt: EA is computed first, so RA may be one of the two
+-- lvd and lvdu (9.4.46, 9.4.47): the doubleword in DT, or the interrupt; EA is computed first, so RA of lvd may be one of the two
 abbrev pub loadedDoubleState : State → LoadedDouble → ℕ → Bool → ℕ → ℕ → State
 loadedDoubleState s (LoadedDouble.Value v) dt update ra ea = nextOf (withVdr (updatedOf s update ra ea) dt v)
 loadedDoubleState s LoadedDouble.Unaligned dt update ra ea = interruptedOf s (Cause.Alignment ea false)
@@ -74,7 +74,7 @@ loadDoubleAt s m dt ea update ra =
       past = reachesPast (accessOf (length m) ea 8);
     }
 
--- (DS), with RA as it was where that is one of the two
+-- stvd and stvdu (9.4.90, 9.4.91): (DS), with RA as it was where that is one of the two
 unfoldable pub storeDoubleAt : State → List ℕ → ℕ → ℕ → Bool → ℕ → After
 storeDoubleAt s m ds ea update ra =
     record {

@@ -15,7 +15,7 @@ valueAt Width.Byte m a = getD m a 0
 valueAt Width.Half m a = getD m a 0 * 2 ^ 8 + getD m (a + 1) 0
 valueAt Width.Word m a = getD m a 0 * 2 ^ 24 + getD m (a + 1) 0 * 2 ^ 16 + getD m (a + 2) 0 * 2 ^ 8 + getD m (a + 3) 0
 
--- MS(a, 8): the word at a is the high-order one
+-- MS(a, 8) of 1.2: the word at a is the high-order one
 unfoldable pub doubleAt : List ℕ → ℕ → ℕ
 doubleAt m a = valueAt Width.Word m a * 2 ^ 32 + valueAt Width.Word m (a + 4)
 
