@@ -169,14 +169,14 @@ pub fn store_indexed(width: Width, rs: u8, ra: u8, rb: u8) -> Written
 pub fn load_double(update: bool, dt: u8, ra: u8, d: u16) -> Written
     ensures { λ r. ⌜ r ≡ writtenOf (Instr.LoadStore (LoadStore.LoadDouble update dt ra d)) ⌝ }
 {
-    let valid = vdr_defined(dt) & reg_defined(ra) & load_double_form(update, dt, ra);
+    let valid = is_vdr(dt) & reg_defined(ra) & load_double_form(update, dt, ra);
     written(valid, word_d(load_double_code(update), dt, ra, d))
 }
 
 pub fn store_double(update: bool, ds: u8, ra: u8, d: u16) -> Written
     ensures { λ r. ⌜ r ≡ writtenOf (Instr.LoadStore (LoadStore.StoreDouble update ds ra d)) ⌝ }
 {
-    let valid = vdr_defined(ds) & reg_defined(ra) & store_form(update, ra);
+    let valid = is_vdr(ds) & reg_defined(ra) & store_form(update, ra);
     written(valid, word_d(store_double_code(update), ds, ra, d))
 }
 

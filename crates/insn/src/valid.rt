@@ -31,7 +31,7 @@ pub fn paired_with(n: u8) -> u8
     (n % 32 + 1) % 32
 }
 
-pub fn vdr_defined(n: u8) -> bool
+pub fn is_vdr(n: u8) -> bool
     ensures { λ r. ⌜ r ≡ isVdr n ⌝ }
 {
     two_defined(n, paired_with(n))

@@ -1,9 +1,11 @@
-//! Words alone: which are legal, and that reading and writing give the same word.
+//! Words alone: which are legal, and what is written of one that was read. The second implementation reads; the table of forms
+//! writes.
 
 use crate::case::draw_word;
 use crate::report::Difference;
-use draw::Urn;
+use draw::{Urn, FORMS};
 use linked::Library;
+use second::Word;
 use std::thread;
 
 const SOME: u32 = 16;
@@ -13,8 +15,9 @@ pub fn compare_some(library: &Library, urn: &mut Urn) -> Result<(), Difference> 
 }
 
 fn compare(library: &Library, word: u32) -> Result<(), Difference> {
-    let legal = second::legal(word);
-    let rewritten = if legal { 1 << 32 | word as u64 } else { 0 };
+    let kind = Word(word).kind();
+    let legal = kind.is_some();
+    let rewritten = kind.map_or(0, |kind| 1 << 32 | FORMS[kind as usize].write(word) as u64);
     if (library.legal)(word) == legal as u32 && (library.rewrite)(word) == rewritten {
         return Ok(());
     }

@@ -52,6 +52,16 @@ impl Field {
         }
     }
 
+    /// The bits that it has in the word: five where values are listed, which are registers and TO.
+    fn bits(&self) -> u32 {
+        let width = match self.values {
+            Values::Any { width } | Values::Offset { width, .. } => width,
+            Values::Listed(_) => 5,
+            Values::Sprs(_) => 10,
+        };
+        ((1 << width) - 1) << self.shift
+    }
+
     fn draw(&self, urn: &mut Urn) -> u32 {
         let value = match self.values {
             Values::Any { width } => urn.word() & ((1 << width) - 1),
@@ -78,6 +88,11 @@ fn draw_offset(urn: &mut Urn, unit: u32) -> u32 {
 }
 
 impl Form {
+    /// The word that the form makes of a word's fields.
+    pub fn write(&self, word: u32) -> u32 {
+        self.fields.iter().fold(self.fixed, |made, field| made | word & field.bits())
+    }
+
     /// How many words the form has.
     pub fn count(&self) -> u64 {
         let words: u64 = self.fields.iter().map(Field::count).product();

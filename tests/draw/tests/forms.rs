@@ -15,12 +15,13 @@ fn the_forms_are_the_instructions() {
 }
 
 #[test]
-fn a_drawn_word_reads_as_its_form() {
+fn a_drawn_word_reads_as_its_form_and_is_written_again() {
     let mut urn = Urn::new(1);
     for form in &FORMS {
         for _ in 0..2000 {
             let word = form.draw(&mut urn);
             assert_eq!(Word(word).kind().map(Kind::mnemonic), Some(form.mnemonic), "{word:08X}");
+            assert_eq!(form.write(word), word);
         }
     }
 }

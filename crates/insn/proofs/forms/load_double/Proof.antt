@@ -14,4 +14,4 @@ load-double-spec =
     (λ c κs. tt)
     (λ c κs. tt)
     (λ c κs. tt)
-    (λ c. rw (c .written .ensures, c .before .word-d .ensures, c .before .before .load-double-code .ensures, c .before .before .before .load-double-form .ensures, c .before .before .before .before .reg-defined .ensures, c .before .before .before .before .before .vdr-defined .ensures, lt-ltb (c .before .before .before .before .before .before .args .d) 65536 (omega arith))))
+    (λ c. rw (c .written .ensures, c .before .word-d .ensures, c .before .before .load-double-code .ensures, c .before .before .before .load-double-form .ensures, c .before .before .before .before .reg-defined .ensures, c .before .before .before .before .before .is-vdr .ensures, lt-ltb (c .before .before .before .before .before .before .args .d) 65536 (omega arith))))

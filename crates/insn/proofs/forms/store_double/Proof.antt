@@ -14,4 +14,4 @@ store-double-spec =
     (λ c κs. tt)
     (λ c κs. tt)
     (λ c κs. tt)
-    (λ c. rw (c .written .ensures, c .before .word-d .ensures, c .before .before .store-double-code .ensures, c .before .before .before .store-form .ensures, c .before .before .before .before .reg-defined .ensures, c .before .before .before .before .before .vdr-defined .ensures, lt-ltb (c .before .before .before .before .before .before .args .d) 65536 (omega arith))))
+    (λ c. rw (c .written .ensures, c .before .word-d .ensures, c .before .before .store-double-code .ensures, c .before .before .before .store-form .ensures, c .before .before .before .before .reg-defined .ensures, c .before .before .before .before .before .is-vdr .ensures, lt-ltb (c .before .before .before .before .before .before .args .d) 65536 (omega arith))))
