@@ -87,8 +87,8 @@ enum ppe42_halt {
 };
 
 /* Why input was refused. A run checks 7 (the state's length), 1, 2, 3, 4, 5 and a step 7, 1, 2, 3, 5; reading a capture
- * checks 7, 1, 2, 3 and writing one 7, 1, 2, 3, 8. The first that applies is given. Number 6 is the instruction writer's,
- * which ppe42_rewrite never meets. */
+ * checks 7, 1, 2, 3 and writing one 7, 1, 2, 3, 8. Assembling a line checks 11, 12, 6, and disassembling a word 8. The first
+ * that applies is given. */
 enum ppe42_refused {
     PPE42_ACCEPTED = 0,
     PPE42_REFUSED_MEMORY = 1,   /* memory of 0 bytes, of no multiple of 32, or over 1,048,576 */
@@ -96,13 +96,16 @@ enum ppe42_refused {
     PPE42_REFUSED_RESERVED = 3, /* a reserved register bit is set, or the halt code is over 5 */
     PPE42_REFUSED_BUDGET = 4,   /* a budget over 1,048,576 */
     PPE42_REFUSED_EVENTS = 5,   /* over 1,048,576 event bytes, or one of 64 or more */
+    PPE42_REFUSED_OPERANDS = 6, /* operands that make no valid instruction */
     PPE42_REFUSED_CAPTURE = 7,  /* no capture: under 188 bytes or a wrong trailer; or a state that is not 144 bytes */
-    PPE42_REFUSED_OUTPUT = 8    /* an output shorter than memory_len + 156 */
+    PPE42_REFUSED_OUTPUT = 8,   /* an output shorter than memory_len + 156; of a line, than 64 */
+    PPE42_REFUSED_LINE = 11,    /* no line of the grammar, nested deeper than 16, or longer than 256 bytes */
+    PPE42_REFUSED_VALUE = 12    /* a value or partial value outside -2^31 to 2^31 - 1 */
 };
 
 /* The answer of a run, a step, a capture function or ppe42_tell is the refusal times 2^32 plus a count, which is 0 where there
- * is a refusal; ppe42_run_reach and ppe42_run_inside may add 2^63. ppe42_access, ppe42_legal and ppe42_rewrite have answers of
- * their own. */
+ * is a refusal; ppe42_run_reach and ppe42_run_inside may add 2^63. ppe42_access, ppe42_legal, ppe42_rewrite,
+ * ppe42_assemble and ppe42_disassemble have answers of their own. */
 static inline uint32_t ppe42_refusal(uint64_t answer) { return (uint32_t)(answer >> 32) & 0x7FFFFFFF; }
 static inline uint32_t ppe42_count(uint64_t answer) { return (uint32_t)answer; }
 static inline int ppe42_reached(uint64_t answer) { return (int)(answer >> 63); }
@@ -180,6 +183,19 @@ uint32_t ppe42_legal(uint32_t word);
 
 /* 2^32 plus the word that reading and then writing gives, or 0 if the word is illegal. */
 uint64_t ppe42_rewrite(uint32_t word);
+
+/* A line of assembly, without its line feed, as its word: the refusal times 2^48, the column times 2^32, the word; column and
+ * word are 0 where they have nothing to say. docs/CORE.md has the syntax. Columns count bytes from 0: with 11 that of the first
+ * byte, or the end, where no line goes on, 256 at most; with 12 the start of the value. */
+uint64_t ppe42_assemble(const uint8_t *line, size_t len);
+static inline uint32_t ppe42_line_refusal(uint64_t answer) { return (uint32_t)(answer >> 48); }
+static inline uint32_t ppe42_line_column(uint64_t answer) { return (uint32_t)(answer >> 32) & 0xFFFF; }
+static inline uint32_t ppe42_line_word(uint64_t answer) { return (uint32_t)answer; }
+
+/* A word as its line, in the first bytes of out and no others: 2^32 plus the number of bytes, and 2^33 on top where a field
+ * that lines do not write (BH, TG, a cache hint) is set, so that the line is that of the word with the field 0. Every other
+ * line assembles to the word. 0: the word is illegal. An out_len under 64 is refused first, with 8 times 2^48. */
+uint64_t ppe42_disassemble(uint32_t word, uint8_t *out, size_t out_len);
 
 #ifdef __cplusplus
 }

@@ -3,11 +3,12 @@
 use clap::{Args, Parser, Subcommand};
 use std::path::PathBuf;
 
-/// The everyday bench: captures of a PPE 42 core made, shown, run, traced and compared, by the proved library.
+/// The everyday bench: captures of a PPE 42 core made, shown, listed, run, traced and compared, and lines assembled, by the
+/// proved library.
 ///
 /// Steps are numbered from 0. Addresses and words are in hex, sizes and counts decimal (K, M and G are thousands). Exit
-/// status: 0 all is well; 1 not as expected, a difference, or words that the core lacks; 2 the input is wrong, and an old
-/// output is as it was. docs/CORE.md says what captures, event bytes, halt codes and refusals are.
+/// status: 0 all is well; 1 not as expected, a difference, words that the core lacks, or a line that was refused; 2 the
+/// input is wrong, and an old output is as it was. docs/CORE.md says what captures, event bytes, halt codes and refusals are.
 #[derive(Parser)]
 #[command(name = "ppe42", bin_name = "./ppe42", disable_help_subcommand = true)]
 pub struct Command {
@@ -21,12 +22,24 @@ pub enum What {
     Make(Make),
     /// Registers by name, what MSR and DBCR mean, and memory
     Show(Show),
+    /// Memory as instructions, with symbols
+    ///
+    /// A line a word: address, word, instruction and, after #, where a branch leads, the name of a special-purpose
+    /// register, or that the word is illegal or has a field that no line writes. Four or more words of 0 are one line.
+    List(List),
     /// Play a capture and say why it stopped and what changed
     Run(Run),
-    /// A line a step: what it did, what it changed
+    /// A line a step: its instruction, what it did, what it changed
     Trace(Trace),
     /// Registers and memory that differ, old and new
     Diff(Diff),
+    /// Lines of assembly to words
+    ///
+    /// A line is as the manual writes it in 9.4: the mnemonic, one space, the operands with commas and no blanks between
+    /// them. Numbers are decimal, or hex after 0x, or expressions with + - * ( ). A branch target is in bytes from the
+    /// branch on, for ba, bla, bca and bcla from 0 on. Each word goes to standard output; what is wrong with a line goes to
+    /// standard error, with its column from 0, and the exit status is 1 at the end. Blank lines are passed over.
+    Asm(Asm),
 }
 
 #[derive(Args)]
@@ -54,6 +67,19 @@ pub struct Show {
     /// Memory from an address up to another, as in 100..140
     #[arg(long, value_name = "FROM..TO")]
     pub memory: Option<String>,
+    /// The ELF that the capture was made of, for symbols
+    #[arg(long, value_name = "ELF")]
+    pub elf: Option<PathBuf>,
+}
+
+#[derive(Args)]
+pub struct List {
+    /// A capture, or an ELF, of which the loaded parts are listed
+    #[arg(value_name = "CAPTURE|ELF")]
+    pub file: PathBuf,
+    /// From an address up to another, as in 100..140
+    #[arg(value_name = "FROM..TO")]
+    pub range: Option<String>,
     /// The ELF that the capture was made of, for symbols
     #[arg(long, value_name = "ELF")]
     pub elf: Option<PathBuf>,
@@ -123,4 +149,10 @@ pub struct Diff {
     pub before: PathBuf,
     /// The new one
     pub after: PathBuf,
+}
+
+#[derive(Args)]
+pub struct Asm {
+    /// The lines; without a file, or with -, those of standard input, each answered as it comes
+    pub file: Option<PathBuf>,
 }

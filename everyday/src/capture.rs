@@ -16,8 +16,12 @@ pub struct Capture {
 impl Capture {
     pub fn read(path: &Path) -> Result<Capture, String> {
         let file = files::read(path, MOST + TRAILER, "a capture")?;
-        let length = library::capture_check(&file)
-            .map_err(|refusal| format!("{}: {}", path.display(), refusals::of_capture(refusal, &file)))?;
+        Capture::of(&file).map_err(|wrong| format!("{}: {wrong}", path.display()))
+    }
+
+    /// The capture that a file is.
+    pub fn of(file: &[u8]) -> Result<Capture, String> {
+        let length = library::capture_check(file).map_err(|refusal| refusals::of_capture(refusal, file))?;
         let mut state = State::zero();
         state.0.copy_from_slice(&file[length..length + STATE]);
         Ok(Capture { state, memory: file[..length].to_vec() })

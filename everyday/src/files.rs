@@ -12,20 +12,23 @@ const MOST_TURNS: u32 = 100;
 
 /// All of a file, which must not be longer than `most`.
 pub fn read(path: &Path, most: usize, what: &str) -> Result<Vec<u8>, String> {
-    let shown = path.display();
-    if path.is_dir() {
-        return Err(format!("{shown} is a directory; name {what} in it"));
-    }
-    let file = File::open(path).map_err(|error| unreadable(path, &error, what))?;
+    let file = open(path, what)?;
     let mut bytes = Vec::new();
     file.take(most as u64 + 1).read_to_end(&mut bytes).map_err(|error| unreadable(path, &error, what))?;
     if bytes.len() > most {
-        return Err(format!("{shown} is longer than {most} bytes, the most that {what} has; name {what}"));
+        return Err(format!("{} is longer than {most} bytes, the most that {what} has; name {what}", path.display()));
     }
     Ok(bytes)
 }
 
-fn unreadable(path: &Path, error: &io::Error, what: &str) -> String {
+pub fn open(path: &Path, what: &str) -> Result<File, String> {
+    if path.is_dir() {
+        return Err(format!("{} is a directory; name {what} in it", path.display()));
+    }
+    File::open(path).map_err(|error| unreadable(path, &error, what))
+}
+
+pub fn unreadable(path: &Path, error: &io::Error, what: &str) -> String {
     let shown = path.display();
     match error.kind() {
         ErrorKind::NotFound => format!("there is no file {shown}; name {what} that is there"),

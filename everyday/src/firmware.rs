@@ -97,6 +97,11 @@ fn loaded<'a>(header: &'a Header, file: &'a [u8]) -> Result<Vec<&'a Segment>, St
     Ok(loaded)
 }
 
+/// From where up to where an ELF has something loaded.
+pub fn parts(file: &[u8]) -> Result<Vec<(u64, u64)>, String> {
+    Ok(loaded(header(file)?, file)?.into_iter().map(span).collect())
+}
+
 /// From the load address up to the end.
 fn span(segment: &Segment) -> (u64, u64) {
     let start = u64::from(segment.p_paddr(Big));

@@ -1,6 +1,7 @@
 //! The everyday bench over the proved library. It reads files, asks the library and prints; it decides nothing about the core.
 
 pub mod args;
+pub mod asm;
 pub mod capture;
 pub mod changes;
 pub mod diff;
@@ -9,6 +10,7 @@ pub mod expect;
 pub mod files;
 pub mod firmware;
 pub mod library;
+pub mod list;
 pub mod load;
 pub mod make;
 pub mod numbers;
@@ -22,3 +24,4 @@ pub mod show;
 pub mod step;
 pub mod symbols;
 pub mod trace;
+pub mod wanted;

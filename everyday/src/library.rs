@@ -9,6 +9,9 @@ pub const TRAILER: usize = 156;
 pub const BLOCK: usize = 32;
 /// Most bytes of memory, steps of a budget, bytes of an event list.
 pub const MOST: usize = 1_048_576;
+/// Most bytes of a line of assembly, and of one that a word is written as.
+pub const MOST_LINE: usize = 256;
+const WRITTEN: usize = 64;
 
 extern "C" {
     fn ppe42_run(
@@ -51,6 +54,8 @@ extern "C" {
         out_len: usize,
     ) -> u64;
     fn ppe42_legal(word: u32) -> u32;
+    fn ppe42_assemble(line: *const u8, len: usize) -> u64;
+    fn ppe42_disassemble(word: u32, out: *mut u8, out_len: usize) -> u64;
 }
 
 /// Why input was refused, by its number.
@@ -97,6 +102,21 @@ pub struct Access {
     pub address: u32,
     pub bytes: u32,
     pub writes: bool,
+}
+
+/// A line of assembly that is no word: why, and in which column of it, from 0.
+#[derive(Clone, Copy, Debug, PartialEq)]
+pub struct Refused {
+    pub refusal: Refusal,
+    pub column: usize,
+}
+
+/// A word as a line of assembly.
+#[derive(Clone, Debug, PartialEq)]
+pub struct Line {
+    pub text: String,
+    /// The word sets a field that lines do not write, so that the line alone is another word.
+    pub more: bool,
 }
 
 fn accepted(answer: u64) -> Result<Answer, Refusal> {
@@ -208,6 +228,23 @@ pub fn start_check(state: &State, memory: &[u8]) -> Result<(), Refusal> {
 
 pub fn legal(word: u32) -> bool {
     unsafe { ppe42_legal(word) == 1 }
+}
+
+/// The word of a line.
+pub fn assemble(line: &[u8]) -> Result<u32, Refused> {
+    let answer = unsafe { ppe42_assemble(line.as_ptr(), line.len()) };
+    match (answer >> 48) as u32 {
+        0 => Ok(answer as u32),
+        refusal => Err(Refused { refusal, column: (answer >> 32) as usize & 0xFFFF }),
+    }
+}
+
+/// The line of a word; none if it is illegal.
+pub fn disassemble(word: u32) -> Option<Line> {
+    let mut out = [0; WRITTEN];
+    let answer = unsafe { ppe42_disassemble(word, out.as_mut_ptr(), out.len()) };
+    let text = String::from_utf8_lossy(&out[..answer as u32 as usize]).into_owned();
+    (answer != 0).then_some(Line { text, more: answer >> 33 & 1 == 1 })
 }
 
 pub fn halted(state: &State) -> bool {

@@ -36,6 +36,17 @@ fn events_text(path: &Path) -> Result<String, String> {
     })
 }
 
+/// `100..140` in hex: from the first address up to, not including, the second, which is `end` at most.
+pub fn range(text: &str, end: usize, what: &str) -> Result<(usize, usize), String> {
+    let (from, to) = text.split_once("..").ok_or("write FROM..TO in hex, as in 100..140")?;
+    let from = numbers::word(from)? as usize;
+    let to = numbers::word(to)? as usize;
+    if to <= from || to > end {
+        return Err(format!("the first must be below the second, and that {end:X} at most, the end of {what}"));
+    }
+    Ok((from, to))
+}
+
 /// `wait`, a symbol, or an address in hex.
 pub fn until(text: &Option<String>, symbols: &Symbols) -> Result<Until, String> {
     let Some(text) = text else { return Ok(Until::Nothing) };

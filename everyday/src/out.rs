@@ -1,5 +1,5 @@
 //! Standard output and standard error. A reader that goes away, as `head` does, changes nothing else: what was asked for is
-//! done, and the exit status is as it would have been.
+//! done, but for lines that nobody reads, and the exit status is as it would have been for what was done.
 
 use std::fmt::Arguments;
 use std::io::{self, ErrorKind, Write};

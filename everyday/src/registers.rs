@@ -77,6 +77,26 @@ const MSR_FIELDS: &[Field] = &[
     stored("SIBRCA", 24, 31),
 ];
 
+/// The special-purpose registers by the numbers of mfspr and mtspr.
+const SPRS: [(u32, &str); 16] = [
+    (1, "XER"),
+    (8, "LR"),
+    (9, "CTR"),
+    (22, "DEC"),
+    (26, "SRR0"),
+    (27, "SRR1"),
+    (61, "EDR"),
+    (62, "ISR"),
+    (63, "IVPR"),
+    (272, "SPRG0"),
+    (286, "PIR"),
+    (287, "PVR"),
+    (308, "DBCR"),
+    (316, "DACR"),
+    (336, "TSR"),
+    (340, "TCR"),
+];
+
 /// All 36 in the order of enum ppe42_place.
 pub const REGISTERS: [Register; 36] = [
     plain("r0"),
@@ -205,6 +225,10 @@ pub fn halt_words(code: u32) -> &'static str {
 
 pub fn place_of(name: &str) -> Option<usize> {
     REGISTERS.iter().position(|register| register.name.eq_ignore_ascii_case(name))
+}
+
+pub fn spr_name(number: u32) -> Option<&'static str> {
+    SPRS.iter().find(|&&(known, _)| known == number).map(|&(_, name)| name)
 }
 
 pub fn names() -> String {

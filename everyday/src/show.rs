@@ -4,7 +4,6 @@ use crate::args::Show;
 use crate::capture::Capture;
 use crate::changes::{line, words, LINE};
 use crate::load;
-use crate::numbers;
 use crate::registers::{halt_words, State, DBCR, HALT, MSR, REGISTERS};
 use crate::say;
 use crate::symbols::Symbols;
@@ -15,7 +14,7 @@ const COLUMNS: usize = 4;
 pub fn show(args: &Show) -> Result<ExitCode, String> {
     let capture = Capture::read(&args.capture)?;
     let symbols = load::symbols(&args.elf)?;
-    let range = args.memory.as_deref().map(|text| range(text, capture.memory.len())).transpose()?;
+    let range = args.memory.as_deref().map(|text| range(text, &capture)).transpose()?;
     say!("memory {} bytes", capture.memory.len());
     table(&capture.state);
     places(&capture.state, &symbols);
@@ -61,18 +60,8 @@ fn fields(state: &State, place: usize) {
     }
 }
 
-/// `100..140` in hex: from the first address up to, not including, the second.
-fn range(text: &str, length: usize) -> Result<(usize, usize), String> {
-    let wrong = |why: String| format!("--memory {text}: {why}");
-    let (from, to) = text.split_once("..").ok_or(wrong("write FROM..TO in hex, as in 100..140".into()))?;
-    let from = numbers::word(from).map_err(wrong)? as usize;
-    let to = numbers::word(to).map_err(wrong)? as usize;
-    if to <= from || to > length {
-        return Err(wrong(format!(
-            "the first must be below the second, and that {length:X} at most, the end of the memory"
-        )));
-    }
-    Ok((from, to))
+fn range(text: &str, capture: &Capture) -> Result<(usize, usize), String> {
+    load::range(text, capture.memory.len(), "the memory").map_err(|wrong| format!("--memory {text}: {wrong}"))
 }
 
 fn memory(memory: &[u8], from: usize, to: usize, symbols: &Symbols) {

@@ -60,6 +60,12 @@ impl Symbols {
         address.map_or(self.all.len(), |address| self.all.partition_point(|symbol| symbol.address < address))
     }
 
+    /// The symbols that lie from `from` up to `to`.
+    pub fn starting(&self, from: u32, to: u32) -> impl Iterator<Item = &Symbol> {
+        let within = &self.all[self.first_from(Some(from))..self.first_from(Some(to))];
+        within.iter().filter(|symbol| !symbol.absolute)
+    }
+
     /// The address in hex, with its name where it has one.
     pub fn place(&self, address: u32) -> String {
         match self.name_of(address) {
@@ -71,8 +77,7 @@ impl Symbols {
     /// The addresses from `start` up to `end` that have a symbol, in order and once each, with where a function there ends.
     pub fn labels(&self, start: u32, end: u32) -> Vec<(u32, u32)> {
         let mut labels: Vec<(u32, u32)> = Vec::new();
-        let within = &self.all[self.first_from(Some(start))..self.first_from(Some(end))];
-        for symbol in within.iter().filter(|symbol| !symbol.absolute) {
+        for symbol in self.starting(start, end) {
             // where assembly gives no size, the word at the label is an instruction all the same
             let size = if symbol.function && symbol.size > 0 { symbol.size } else { 4 };
             let past = symbol.address.saturating_add(size);

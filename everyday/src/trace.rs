@@ -5,6 +5,7 @@ use crate::capture::Capture;
 use crate::changes::words;
 use crate::events;
 use crate::library::{self, Told};
+use crate::list::{self, WIDTH};
 use crate::load;
 use crate::numbers;
 use crate::play::{self, Until};
@@ -48,19 +49,21 @@ pub fn trace(args: &Trace) -> Result<ExitCode, String> {
     Ok(ExitCode::SUCCESS)
 }
 
-/// Number, address, word, name, what was done and what changed.
+/// Number, address, word, instruction, name, what was done and what changed.
 fn line(step: &Step, symbols: &Symbols) -> String {
     let at = step.before.get(IAR);
     let word = step.word.map_or("-".repeat(8), |word| format!("{word:08X}"));
+    let instruction = step.word.map_or(String::new(), list::instruction);
     let name = symbols.name_of(at).unwrap_or_default();
     let name = if symbols.is_empty() { name } else { format!("{name:<NAME$}  ") };
     let mut parts = vec![did(step, symbols)];
+    parts.extend(step.word.and_then(list::unwritten));
     if step.event != 0 {
         parts.push(format!("event {}", events::shown(step.event)));
     }
     parts.extend(access(step, symbols));
     parts.extend(registers(step, symbols));
-    format!("{:>8}  {at:08X}  {word}  {name}{}", step.number, parts.join(", "))
+    format!("{:>8}  {at:08X}  {word}  {instruction:<WIDTH$}  {name}{}", step.number, parts.join(", "))
 }
 
 fn did(step: &Step, symbols: &Symbols) -> String {

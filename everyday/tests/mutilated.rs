@@ -1,8 +1,9 @@
-//! Two hundred mutilated inputs: the program ends by itself, with a status of its own and a sentence where it is not content.
+//! Two hundred mutilated inputs, and a hundred of lines to assemble: the program ends by itself, with a status of its own and a
+//! sentence where it is not content.
 
 mod common;
 
-use common::{content, folder, ppe42, text};
+use common::{content, fed, folder, ppe42, text};
 use std::fs;
 use std::path::Path;
 
@@ -69,9 +70,11 @@ fn mutilated_inputs() {
         fs::write(folder.join("bad.elf"), mutilate(&elf, &mut draw)).unwrap();
         fs::write(folder.join("bad.capture"), mutilate(&capture, &mut draw)).unwrap();
         fs::write(folder.join("bad.txt"), mutilate(events, &mut draw)).unwrap();
-        let fourth: &[&str] = match draw.below(3) {
+        let fourth: &[&str] = match draw.below(5) {
             0 => &["run", "bad.capture", "--out", "out.capture", "--steps", "100000"],
             1 => &["show", "bad.capture", "--memory", "0..20"],
+            2 => &["list", "bad.capture", "--elf", "bad.elf"],
+            3 => &["list", "bad.elf"],
             _ => &["diff", "ledger.capture", "bad.capture"],
         };
         let plays = [
@@ -86,4 +89,29 @@ fn mutilated_inputs() {
         taken += plays.iter().filter(|&&content| content).count();
     }
     assert!((20..180).contains(&taken), "{taken} of 200 were taken: they are not mutilated enough, or too much");
+}
+
+/// Good lines that were mutilated, and bytes that were never lines: each line that is not blank gets its word, or its refusal.
+#[test]
+fn mutilated_lines() {
+    let folder = folder("mutilated_lines");
+    let good =
+        b"addi r3,0,(1+2)*-3\nlwz r3,0x10(r1)\nbc 12,2,-8\n\nrlwinm r3,r4,5,0,26\nmtspr 272,r3\nrfi\nlvd r28,8(0)\r\n";
+    let mut draw = Draw(0x9E37_79B9_7F4A_7C15);
+    let mut taken = 0;
+    for k in 0..100 {
+        let random: Vec<u8> = (0..2000).map(|_| draw.below(256) as u8).collect();
+        let bytes = if k % 2 == 0 { mutilate(&good.repeat(10), &mut draw) } else { random };
+        let output = fed(&folder, &["asm"], &bytes);
+        let said = text(&output.stderr);
+        let words = text(&output.stdout).lines().count();
+        let refused = said.lines().filter(|line| line.starts_with("ppe42: line ")).count();
+        let is_blank = |line: &&[u8]| line.strip_suffix(b"\r").unwrap_or(line).iter().all(|byte| b" \t".contains(byte));
+        let lines = bytes.split(|&byte| byte == b'\n').filter(|line| !is_blank(line)).count();
+        assert_eq!(words + refused, lines, "{said}");
+        assert_eq!(output.status.code(), Some(i32::from(refused > 0)), "{said}");
+        assert!(text(&output.stdout).lines().all(|word| word.len() == 8), "{said}");
+        taken += words;
+    }
+    assert!(taken > 2000, "{taken} lines were taken: they are mutilated too much");
 }

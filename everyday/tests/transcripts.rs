@@ -1,9 +1,10 @@
 //! Stored transcripts: each `$` line is run in a folder with the firmware, and must print what stands below it. What goes to
-//! standard error follows what goes to standard output, then the exit status if it is not 0. Lines of `time` are left out.
+//! standard error follows what goes to standard output, then the exit status if it is not 0. Lines of `time` are left out. A
+//! last word `<FILE` gives ./ppe42 that file on standard input.
 
 mod common;
 
-use common::{folder, ppe42, text};
+use common::{fed, folder, text};
 use std::fs;
 use std::path::Path;
 
@@ -14,8 +15,12 @@ fn transcript(name: &str) {
     let mut found = String::new();
     for line in stored.lines() {
         if let Some(words) = line.strip_prefix("$ ./ppe42 ") {
+            let (words, file) = words.split_once(" <").unwrap_or((words, ""));
             let arguments = split(words);
-            let output = ppe42(&folder, &arguments.iter().map(String::as_str).collect::<Vec<_>>());
+            let arguments: Vec<&str> = arguments.iter().map(String::as_str).collect();
+            let input =
+                if file.is_empty() { Vec::new() } else { fs::read(folder.join(file)).expect("the input is there") };
+            let output = fed(&folder, &arguments, &input);
             found += &format!("{line}\n{}{}", timeless(&text(&output.stdout)), text(&output.stderr));
             let code = output.status.code().expect("it ends by itself");
             if code != 0 {
@@ -76,6 +81,16 @@ fn look() {
 #[test]
 fn context() {
     transcript("context");
+}
+
+#[test]
+fn asm() {
+    transcript("asm");
+}
+
+#[test]
+fn list() {
+    transcript("list");
 }
 
 #[test]

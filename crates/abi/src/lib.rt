@@ -4,7 +4,9 @@ ghost use mathlib.Core.Path.{_≡_};
 ghost use Prim.Native.Nat.{_<_, _^_};
 ghost use lib.ListN.{length};
 ghost use Rattle.insn.specs.Read.{decodeOf};
-ghost use Rattle.abi.specs.Boundary.{legalOf, rewriteOf, answerOf, stored, runAnswer, runState, runLent, reachAnswer, insideAnswer, insideState, insideLent, stepAnswer, stepState, stepLent, tellAnswer, packedOf, accessAnswer, checkAnswer, writeAnswer, writeOut};
+ghost use Rattle.abi.specs.Boundary.{legalOf, rewriteOf, answerOf, stored, runAnswer, runState, runLent, reachAnswer, insideAnswer, insideState, insideLent, stepAnswer, stepState, stepLent, tellAnswer, packedOf, accessAnswer, checkAnswer, writeAnswer, writeOut, Assembles, listedAnswer};
+ghost use Rattle.asm.specs.Listing.{listedOf, listedOut};
+use asm::disassemble::Listed;
 use insn::instr::Decoded;
 use machine::refusal::Refusal;
 use machine::refusal::accepts;
@@ -198,4 +200,30 @@ pub extern "C" fn ppe42_capture_write(state: &[u8], memory: &[u8], out: &mut [u8
     let written = capture::write::write(start, memory, out);
     let refusal = written.refusal;
     answer(refusal, written.bytes as u32)
+}
+
+// A line as its word: the refusal times 2^48, the column times 2^32, the word.
+#[no_mangle]
+pub extern "C" fn ppe42_assemble(line: &[u8]) -> u64
+    ensures { λ r. ⌜ Assembles (now (line .entry)) r ⌝ }
+{
+    let a = asm::assemble::assemble(line);
+    a.refusal as u64 * 0x1_0000_0000_0000 + a.column as u64 * 0x1_0000_0000 + a.word as u64
+}
+
+// A word as its line, in the first bytes of the output.
+#[no_mangle]
+pub extern "C" fn ppe42_disassemble(word: u32, out: &mut [u8]) -> u64
+    ensures { λ r. ⌜ (r ≡ listedAnswer (listedOf (decodeOf word) (now (out .entry)))) × (now (out .exit) ≡ listedOut (decodeOf word) (now (out .entry))) ⌝ }
+{
+    let listed = asm::disassemble::disassemble(word, out);
+    match listed {
+        Listed::Refused => 0x8_0000_0000_0000,
+        Listed::Illegal => 0,
+        Listed::Line { bytes, more } => if more {
+            0x3_0000_0000 + bytes as u64
+        } else {
+            0x1_0000_0000 + bytes as u64
+        },
+    }
 }

@@ -1,12 +1,17 @@
 -- Answers are determined: any two results that meet the contract of a public operation are equal, what was lent included. Assumes nothing.
 use Prim.Native.Nat.{ℕ}
-use mathlib.Core.Path.{_≡_, sym, _∙_}
+use mathlib.Core.Path.{_≡_, sym, ap, _∙_}
 use mathlib.Core.List.{List}
 use Rattle.insn.specs.Read.{decodeOf}
 use Rattle.insn.specs.Write.{writtenOf}
 use Rattle.insn.specs.declared.instr.Instr.{Instr}
 use Rattle.insn.specs.declared.instr.Decoded.{Decoded}
 use Rattle.insn.specs.declared.instr.Written.{Written}
+use Rattle.asm.specs.Answer.{Answer as LineAnswer}
+use Rattle.asm.specs.Listing.{listedOf, listedOut}
+use Rattle.asm.specs.declared.assemble.Assembled.{Assembled}
+use Rattle.asm.specs.declared.disassemble.Listed.{Listed}
+use Rattle.asm.proofs.Answers.{answer-once}
 use Rattle.machine.specs.declared.state.State.{State}
 use Rattle.tell.specs.Told.{toldOf}
 use Rattle.tell.specs.Uses.{useOf}
@@ -21,7 +26,7 @@ use Rattle.capture.specs.Read.{readOf, partOf}
 use Rattle.capture.specs.Write.{writtenOf as captureWritten, outOf}
 use Rattle.capture.specs.declared.read.Read.{Read}
 use Rattle.capture.specs.declared.write.Written.{Written as CaptureWritten}
-use Rattle.abi.specs.Boundary.{legalOf, rewriteOf, runAnswer, runState, runLent, reachAnswer, insideAnswer, insideState, insideLent, stepAnswer, stepState, stepLent, tellAnswer, accessAnswer, checkAnswer, writeAnswer, writeOut}
+use Rattle.abi.specs.Boundary.{legalOf, rewriteOf, runAnswer, runState, runLent, reachAnswer, insideAnswer, insideState, insideLent, stepAnswer, stepState, stepLent, tellAnswer, accessAnswer, checkAnswer, writeAnswer, writeOut, Assembles, assembledAnswer, listedAnswer}
 
 -- a contract that is an equation has one answer
 one : {A : Type 0} {x y z : A} → x ≡ z → y ≡ z → x ≡ y
@@ -81,6 +86,20 @@ pub capture-part-determined : (f r q : List ℕ) → r ≡ partOf f → q ≡ pa
 capture-part-determined f r q = one
 
 -- the C functions, whose states are bytes
+pub line-determined : (s : List ℕ) (r q : Assembled) → LineAnswer s r → LineAnswer s q → r ≡ q
+line-determined s r q a b = answer-once s r q a b
+
+pub listing-determined : (w : ℕ) (out : List ℕ) (r q : Listed) (o′ p′ : List ℕ)
+    → (r ≡ listedOf (decodeOf w) out) × (o′ ≡ listedOut (decodeOf w) out) → (q ≡ listedOf (decodeOf w) out) × (p′ ≡ listedOut (decodeOf w) out) → (r ≡ q) × (o′ ≡ p′)
+listing-determined w out r q o′ p′ = two
+
+pub c-assemble-determined : (s : List ℕ) (r q : ℕ) → Assembles s r → Assembles s q → r ≡ q
+c-assemble-determined s r q a b = a .packed ∙ (ap assembledAnswer (answer-once s (a .answer) (b .answer) (a .given) (b .given)) ∙ sym (b .packed))
+
+pub c-disassemble-determined : (w : ℕ) (out : List ℕ) (r q : ℕ) (o′ p′ : List ℕ)
+    → (r ≡ listedAnswer (listedOf (decodeOf w) out)) × (o′ ≡ listedOut (decodeOf w) out) → (q ≡ listedAnswer (listedOf (decodeOf w) out)) × (p′ ≡ listedOut (decodeOf w) out) → (r ≡ q) × (o′ ≡ p′)
+c-disassemble-determined w out r q o′ p′ = two
+
 pub c-legal-determined : (w r q : ℕ) → r ≡ legalOf (decodeOf w) → q ≡ legalOf (decodeOf w) → r ≡ q
 c-legal-determined w r q = one
 

@@ -11,3 +11,4 @@ pub mod Determined
 pub mod Lent
 pub mod Worked
 pub mod Inside
+pub mod Lines

@@ -7,18 +7,19 @@ use std::path::{Path, PathBuf};
 use std::process::Output;
 use std::sync::OnceLock;
 
-const FIRMWARE: [(&str, &[&str]); 4] = [
+const FIRMWARE: [(&str, &[&str]); 5] = [
     ("ledger", &["examples/ledger/start.s", "examples/ledger/ledger.c"]),
     ("ticks", &["everyday/tests/firmware/ticks.s", "everyday/tests/firmware/ticks.c"]),
     ("look", &["examples/ledger/start.s", "everyday/tests/firmware/look.c"]),
     ("context", &["everyday/tests/firmware/context.s"]),
+    ("words", &["everyday/tests/firmware/words.s"]),
 ];
 
 pub fn root() -> PathBuf {
     Path::new(env!("CARGO_MANIFEST_DIR")).parent().expect("everyday/ stands in the repository").into()
 }
 
-/// The folder with ledger.elf, ticks.elf, look.elf, context.elf and lacks.elf, compiled once.
+/// The folder with an ELF of each firmware and lacks.elf, compiled once.
 pub fn firmware() -> &'static Path {
     static BUILT: OnceLock<PathBuf> = OnceLock::new();
     BUILT.get_or_init(|| {
@@ -42,16 +43,22 @@ pub fn folder(name: &str) -> PathBuf {
     let folder = Path::new(env!("CARGO_TARGET_TMPDIR")).join(name);
     let _ = fs::remove_dir_all(&folder);
     fs::create_dir_all(&folder).expect("a folder for the test");
-    for name in ["ledger.elf", "ticks.elf", "look.elf", "context.elf", "lacks.elf"] {
-        fs::copy(firmware().join(name), folder.join(name)).expect("the firmware is there");
+    for name in FIRMWARE.iter().map(|(name, _)| *name).chain(["lacks"]) {
+        let elf = format!("{name}.elf");
+        fs::copy(firmware().join(&elf), folder.join(&elf)).expect("the firmware is there");
     }
     folder
 }
 
 /// ./ppe42 in a folder.
 pub fn ppe42(folder: &Path, arguments: &[&str]) -> Output {
+    fed(folder, arguments, &[])
+}
+
+/// The same with something on standard input.
+pub fn fed(folder: &Path, arguments: &[&str], input: &[u8]) -> Output {
     let mut command = Command::cargo_bin("ppe42").expect("the program is built");
-    command.current_dir(folder).args(arguments).output().expect("the program runs")
+    command.current_dir(folder).args(arguments).write_stdin(input).output().expect("the program runs")
 }
 
 pub fn text(bytes: &[u8]) -> String {

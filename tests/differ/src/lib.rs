@@ -6,6 +6,7 @@ mod asked;
 mod captures;
 mod case;
 mod growth;
+pub mod lines;
 mod report;
 mod runs;
 mod tally;

@@ -124,6 +124,20 @@ pub unsafe extern "C" fn ppe42_capture_write(
     second::capture_write(lent(state, state_len), lent(memory, memory_len), lent_mut(out, out_len))
 }
 
+/// # Safety
+/// See the top.
+#[no_mangle]
+pub unsafe extern "C" fn ppe42_assemble(line: *const u8, len: usize) -> u64 {
+    second::assemble(lent(line, len))
+}
+
+/// # Safety
+/// See the top.
+#[no_mangle]
+pub unsafe extern "C" fn ppe42_disassemble(word: u32, out: *mut u8, out_len: usize) -> u64 {
+    second::disassemble(word, lent_mut(out, out_len))
+}
+
 /// An empty buffer may come with any pointer, a null one too.
 unsafe fn lent<'a>(start: *const u8, length: usize) -> &'a [u8] {
     if length == 0 {

@@ -45,6 +45,8 @@ extern "C" {
         out: *mut u8,
         out_len: usize,
     ) -> u64;
+    fn ppe42_assemble(line: *const u8, len: usize) -> u64;
+    fn ppe42_disassemble(word: u32, out: *mut u8, out_len: usize) -> u64;
 }
 
 /// A function that plays a run: given state, memory, event list and budget.
@@ -78,10 +80,26 @@ pub struct Library {
     pub capture_check: fn(&[u8]) -> u64,
     /// Refusal * 2^32 + bytes written.
     pub capture_write: fn(&[u8], &[u8], &mut [u8]) -> u64,
+    /// Refusal * 2^48 + column * 2^32 + word of a line.
+    pub assemble: fn(&[u8]) -> u64,
+    /// 2^32 + bytes of the word's line, + 2^33 if it leaves out a field that is not 0, 0 if illegal, or refusal * 2^48.
+    pub disassemble: fn(u32, &mut [u8]) -> u64,
 }
 
-pub const LINKED: Library =
-    Library { legal, rewrite, run, run_reach, run_inside, step, tell, access, capture_check, capture_write };
+pub const LINKED: Library = Library {
+    legal,
+    rewrite,
+    run,
+    run_reach,
+    run_inside,
+    step,
+    tell,
+    access,
+    capture_check,
+    capture_write,
+    assemble,
+    disassemble,
+};
 
 // SAFETY, for each call: the library touches nothing but the buffers that it is lent, within their lengths.
 
@@ -155,4 +173,12 @@ fn capture_write(state: &[u8], memory: &[u8], out: &mut [u8]) -> u64 {
     unsafe {
         ppe42_capture_write(state.as_ptr(), state.len(), memory.as_ptr(), memory.len(), out.as_mut_ptr(), out.len())
     }
+}
+
+fn assemble(line: &[u8]) -> u64 {
+    unsafe { ppe42_assemble(line.as_ptr(), line.len()) }
+}
+
+fn disassemble(word: u32, out: &mut [u8]) -> u64 {
+    unsafe { ppe42_disassemble(word, out.as_mut_ptr(), out.len()) }
 }

@@ -3,7 +3,9 @@
 #![forbid(unsafe_code)]
 
 mod arithmetic;
+pub mod assembler;
 mod capture;
+pub mod disassembler;
 mod execute;
 mod interrupts;
 mod memory;
@@ -96,6 +98,28 @@ pub fn capture_check(file: &[u8]) -> u64 {
 /// Refusal * 2^32 + bytes written.
 pub fn capture_write(state: &[u8], memory: &[u8], out: &mut [u8]) -> u64 {
     answer(capture::write(state, memory, out))
+}
+
+/// Refusal * 2^48 + column * 2^32 + word of a line.
+pub fn assemble(line: &[u8]) -> u64 {
+    let (refusal, column, word) = assembler::assemble(line);
+    (refusal as u64) << 48 | (column as u64) << 32 | word as u64
+}
+
+/// Bytes that are always enough for a line.
+pub const LINE: usize = 64;
+
+/// 2^32 + bytes of the word's line, which are written, + 2^33 where it leaves out a field that is not 0; 0 for an illegal
+/// word; refusal * 2^48 where the buffer is shorter than `LINE`.
+pub fn disassemble(word: u32, out: &mut [u8]) -> u64 {
+    if out.len() < LINE {
+        return 8 << 48;
+    }
+    let Some(line) = disassembler::disassemble(word) else {
+        return 0;
+    };
+    out[..line.text.len()].copy_from_slice(line.text.as_bytes());
+    1 << 32 | (line.unwritten as u64) << 33 | line.text.len() as u64
 }
 
 fn answer(result: Result<u32, u32>) -> u64 {

@@ -1,0 +1,12 @@
+pub mod Lines
+pub mod Walk
+pub mod Rows
+pub mod Samples
+pub mod Filled
+pub mod Back
+pub mod Groups
+pub mod Fields
+pub mod Answers
+pub mod Printing
+pub mod Letters
+pub mod Columns

@@ -1,0 +1,44 @@
+use borrow.Author.Needs.{needs}
+use Rattle.asm.proofs.queue.load_store.Statement.{statement}
+use Rattle.asm.proofs.queue.load_store.Tie as tie
+
+pub load-store-spec : {M : Type 1} → statement M
+load-store-spec =
+    tie.close
+    (tie.spec
+    (λ c. search needs)
+    (λ c. search needs)
+    (λ c. search needs)
+    (λ c. search needs)
+    (λ c κs. search needs)
+    (λ c. search needs)
+    (λ c. search needs)
+    (λ c. search needs)
+    (λ c. search needs)
+    (λ c κs. search needs)
+    (λ c. search needs)
+    (λ c. search needs)
+    (λ c. search needs)
+    (λ c. search needs)
+    (λ c κs. search needs)
+    (λ c. search needs)
+    (λ c. search needs)
+    (λ c. search needs)
+    (λ c. search needs)
+    (λ c κs. search needs)
+    (λ c. search needs)
+    (λ c. search needs)
+    (λ c. search needs)
+    (λ c. search needs)
+    (λ c κs. search needs)
+    (λ c. search needs)
+    (λ c. search needs)
+    (λ c. search needs)
+    (λ c. search needs)
+    (λ c κs. search needs)
+    (λ c. rw (c .before .before .x .given .1, c .three .ensures))
+    (λ c. rw (c .before .before .x2 .given .1, c .three2 .ensures))
+    (λ c. rw (c .before .before .x3 .given .1, c .three3 .ensures))
+    (λ c. rw (c .before .before .x4 .given .1, c .three4 .ensures))
+    (λ c. rw (c .before .before .x5 .given .1, c .three5 .ensures))
+    (λ c. rw (c .before .before .x6 .given .1, c .three6 .ensures)))

@@ -1,0 +1,25 @@
+use borrow.Author.Needs.{needs}
+use Rattle.asm.proofs.queue.logical.Statement.{statement}
+use Rattle.asm.proofs.queue.logical.Tie as tie
+
+pub logical-spec : {M : Type 1} → statement M
+logical-spec =
+    tie.close
+    (tie.spec
+    (λ c. search needs)
+    (λ c. search needs)
+    (λ c. search needs)
+    (λ c. search needs)
+    (λ c κs. search needs)
+    (λ c. search needs)
+    (λ c. search needs)
+    (λ c. search needs)
+    (λ c. search needs)
+    (λ c κs. search needs)
+    (λ c. search needs)
+    (λ c. search needs)
+    (λ c. search needs)
+    (λ c κs. search needs)
+    (λ c. rw (c .before .before .x .given .1, c .three .ensures))
+    (λ c. rw (c .before .before .x2 .given .1, c .three2 .ensures))
+    (λ c. rw (c .before .before .x3 .given .1, c .two .ensures)))

@@ -1,0 +1,5 @@
+pub mod Grammar
+pub mod Evaluate
+pub mod Scan
+pub mod Digits
+pub mod Reads

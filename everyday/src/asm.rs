@@ -1,0 +1,123 @@
+//! `asm`: lines of assembly to words.
+
+use crate::args::Asm;
+use crate::files;
+use crate::library::{self, Refused};
+use crate::wanted;
+use crate::{complain, say};
+use std::io::{self, BufRead, BufReader, IsTerminal, Read};
+use std::path::Path;
+use std::process::ExitCode;
+
+/// Bytes of a line that are kept; what the library answers to a longer one does not hang on the rest.
+const KEPT: usize = 65_536;
+
+/// Letters of a line that are shown at most, and of them those before the column.
+const SHOWN: usize = 80;
+const BEFORE: usize = 60;
+
+const WHAT: &str = "a file of lines";
+
+/// Status 1 if a line was refused.
+pub fn asm(args: &Asm) -> Result<ExitCode, String> {
+    let file = args.file.as_deref().filter(|file| *file != Path::new("-"));
+    let mut input = open(file)?;
+    let source = file.map_or(String::new(), |file| format!("{}, ", file.display()));
+    let mut status = ExitCode::SUCCESS;
+    for number in 1u64.. {
+        let read = next(&mut input).map_err(|error| unreadable(file, &error))?;
+        if read.is_empty() {
+            break;
+        }
+        let line = text(&read, number == 1);
+        if is_blank(line) {
+            continue;
+        }
+        match library::assemble(line) {
+            Ok(word) => {
+                // where nobody reads on, an endless input would be read for nothing
+                if !say!("{word:08X}") {
+                    break;
+                }
+            }
+            Err(refused) => {
+                status = ExitCode::from(1);
+                complain!("{source}line {number}, {}", shown(line, refused));
+            }
+        }
+    }
+    Ok(status)
+}
+
+fn open(file: Option<&Path>) -> Result<Box<dyn BufRead>, String> {
+    let Some(file) = file else {
+        if io::stdin().is_terminal() {
+            complain!("write a line, and its word comes; Ctrl-D ends");
+        }
+        return Ok(Box::new(io::stdin().lock()));
+    };
+    Ok(Box::new(BufReader::new(files::open(file, WHAT)?)))
+}
+
+fn unreadable(file: Option<&Path>, error: &io::Error) -> String {
+    files::unreadable(file.unwrap_or(Path::new("standard input")), error, WHAT)
+}
+
+/// The next line with its end, or nothing; of a very long one the first bytes.
+fn next(input: &mut dyn BufRead) -> io::Result<Vec<u8>> {
+    let line = piece(input)?;
+    let mut last = line.len() < KEPT || line.ends_with(b"\n");
+    while !last {
+        let rest = piece(input)?;
+        last = rest.len() < KEPT || rest.ends_with(b"\n");
+    }
+    Ok(line)
+}
+
+fn piece(input: &mut dyn BufRead) -> io::Result<Vec<u8>> {
+    let mut piece = Vec::new();
+    input.take(KEPT as u64).read_until(b'\n', &mut piece)?;
+    Ok(piece)
+}
+
+/// The line itself: without its end, as any system writes it, and without the mark that some editors begin a file with.
+fn text(read: &[u8], first: bool) -> &[u8] {
+    let line = read.strip_suffix(b"\n").unwrap_or(read);
+    let line = line.strip_suffix(b"\r").unwrap_or(line);
+    line.strip_prefix("\u{FEFF}".as_bytes()).filter(|_| first).unwrap_or(line)
+}
+
+fn is_blank(line: &[u8]) -> bool {
+    line.len() < KEPT && line.iter().all(|byte| b" \t".contains(byte))
+}
+
+/// Column, number, what is wrong, the line and a caret under the column.
+fn shown(line: &[u8], refused: Refused) -> String {
+    let (column, number) = (refused.column, refused.refusal);
+    let from = column - fitting(line[..column].iter().rev(), BEFORE);
+    let before = format!("{}{}", if from > 0 { ".." } else { "" }, readable(&line[from..column]));
+    let to = column + fitting(line[column..].iter(), SHOWN - before.len());
+    let after = format!("{}{}", readable(&line[column..to]), if to < line.len() { ".." } else { "" });
+    let blanks = " ".repeat(before.len());
+    let why = wanted::sentence(line, refused);
+    format!("column {column}: refusal {number}: {why}\n  {before}{after}\n  {blanks}^")
+}
+
+/// How many of these bytes have room in so many letters.
+fn fitting<'a>(bytes: impl Iterator<Item = &'a u8>, room: usize) -> usize {
+    let mut letters = 0;
+    let fits = |byte: &&u8| {
+        letters += readable(&[**byte]).len();
+        letters <= room
+    };
+    bytes.take_while(fits).count()
+}
+
+/// Bytes as they can be shown in a line.
+fn readable(bytes: &[u8]) -> String {
+    let shown = |&byte: &u8| match byte {
+        b' '..=b'~' => char::from(byte).to_string(),
+        _ => byte.escape_ascii().to_string(),
+    };
+    bytes.iter().map(shown).collect()
+}
