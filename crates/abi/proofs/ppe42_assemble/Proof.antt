@@ -4,39 +4,28 @@ use native.Mathlib.Omega.{arith}
 use borrow.Author.Needs.{needs}
 use Rattle.abi.proofs.ppe42_assemble.Statement.{statement}
 use Rattle.abi.proofs.ppe42_assemble.Tie as tie
-use Rattle.abi.proofs.ppe42_assemble.Reads as reads
-use Rattle.abi.proofs.ppe42_assemble.Lts as lts
-use Rattle.asm.proofs.assemble.assemble.Reads as assemble-reads
 
--- src/lib.rt:210:9
 assemble-requires : tie.Need-assemble-requires
 assemble-requires c κs = search needs
 
--- src/lib.rt:211:5
 cast-result : tie.Need-cast-result
 cast-result c = search needs
 
--- src/lib.rt:211:5
 mul-result : tie.Need-mul-result
 mul-result c = search needs
 
--- src/lib.rt:211:45
 mul-result-2 : tie.Need-mul-result-2
 mul-result-2 c = record { fits = omega (arith, packed-fits _ _ (c .before .assemble .ensures) .0) }
 
--- src/lib.rt:211:5
 add-result : tie.Need-add-result
 add-result c = record { fits = omega (arith, packed-fits _ _ (c .before .assemble .ensures) .1) }
 
--- src/lib.rt:211:79
 cast-result-2 : tie.Need-cast-result-2
 cast-result-2 c = search needs
 
--- src/lib.rt:211:5
 add-result-2 : tie.Need-add-result-2
 add-result-2 c = record { fits = omega (arith, packed-fits _ _ (c .before .before .assemble .ensures) .1, c .struct-known2 .given) }
 
--- src/lib.rt:206:1
 returns : tie.Need-returns
 returns c = record { answer = _; given = c .before .before .assemble .ensures; packed = refl }
 

@@ -4,63 +4,46 @@ use native.Mathlib.Omega.{arith}
 use borrow.Author.Needs.{needs}
 use Rattle.abi.proofs.ppe42_disassemble.Statement.{statement}
 use Rattle.abi.proofs.ppe42_disassemble.Tie as tie
-use Rattle.abi.proofs.ppe42_disassemble.Reads as reads
-use Rattle.abi.proofs.ppe42_disassemble.Lts as lts
-use Rattle.asm.proofs.disassemble.disassemble.Reads as disassemble-reads
 
--- src/lib.rt:219:9
 disassemble-requires : tie.Need-disassemble-requires
 disassemble-requires c κs = search needs
 
--- src/lib.rt:221:28
 enum-told : tie.Need-enum-told
 enum-told c = search needs
 
--- src/lib.rt:222:28
 enum-told-2 : tie.Need-enum-told-2
 enum-told-2 c = search needs
 
--- src/lib.rt:223:24
 enum-known-listed : tie.Need-enum-known-listed
 enum-known-listed c = search needs
 
--- src/lib.rt:224:13
 add-result : tie.Need-add-result
 add-result c = record { fits = omega (arith, listed-fits (decodeOf (c .before .before .before .before .before .before .before .before .before .args .word)) (c .before .before .before .before .before .before .before .before .before .args .out .now) _ _ _ (c .before .before .listed .given .1) (c .before .before .before .before .before .before .disassemble .ensures .0)) }
 
--- src/lib.rt:226:13
 add-result-2 : tie.Need-add-result-2
 add-result-2 c = record { fits = omega (arith, listed-fits (decodeOf (c .before .before .before .before .before .before .before .before .before .args .word)) (c .before .before .before .before .before .before .before .before .before .args .out .now) _ _ _ (c .before .before .listed .given .1) (c .before .before .before .before .before .before .disassemble .ensures .0)) }
 
--- src/lib.rt:215:1
 same-length : tie.Need-same-length
 same-length c = search needs
 
--- src/lib.rt:215:1
 returns : tie.Need-returns
 returns c = listed-answer _ _ _ _ _ (c .before .before .before .before .disassemble .ensures) (rw (c .enum-told .given .1))
 
--- src/lib.rt:215:1
 same-length-2 : tie.Need-same-length-2
 same-length-2 c = search needs
 
--- src/lib.rt:215:1
 returns-2 : tie.Need-returns-2
 returns-2 c = listed-answer _ _ _ _ _ (c .before .before .before .before .disassemble .ensures) (rw (c .enum-told2 .given .1))
 
--- src/lib.rt:215:1
 same-length-3 : tie.Need-same-length-3
 same-length-3 c = search needs
 
--- src/lib.rt:215:1
 returns-3 : tie.Need-returns-3
 returns-3 c = listed-answer _ _ _ _ _ (c .before .before .before .before .before .before .disassemble .ensures) (rw (c .before .before .listed .given .1, c .if1 .taken) (omega arith))
 
--- src/lib.rt:215:1
 same-length-4 : tie.Need-same-length-4
 same-length-4 c = search needs
 
--- src/lib.rt:215:1
 returns-4 : tie.Need-returns-4
 returns-4 c = listed-answer _ _ _ _ _ (c .before .before .before .before .before .before .disassemble .ensures) (rw (c .before .before .listed .given .1, c .if1 .left) (omega arith))
 

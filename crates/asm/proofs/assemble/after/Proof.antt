@@ -1,70 +1,52 @@
 use borrow.Author.Needs.{needs}
 use Rattle.asm.proofs.assemble.after.Statement.{statement}
 use Rattle.asm.proofs.assemble.after.Tie as tie
-use Rattle.asm.proofs.assemble.after.Reads as reads
-use Rattle.asm.proofs.assemble.after.Lts as lts
 
--- src/assemble.rt:42:20
 enum-known-seen : tie.Need-enum-known-seen
 enum-known-seen c = search needs
 
--- src/assemble.rt:43:25
 enum-told : tie.Need-enum-told
 enum-told c = search needs
 
--- src/assemble.rt:44:24
 enum-known-f : tie.Need-enum-known-f
 enum-known-f c = search needs
 
--- src/assemble.rt:45:29
 enum-told-2 : tie.Need-enum-told-2
 enum-told-2 c = search needs
 
--- src/assemble.rt:46:31
 enum-told-3 : tie.Need-enum-told-3
 enum-told-3 c = search needs
 
--- src/assemble.rt:48:24
 enum-told-4 : tie.Need-enum-told-4
 enum-told-4 c = search needs
 
--- src/assemble.rt:49:24
 enum-known-f-2 : tie.Need-enum-known-f-2
 enum-known-f-2 c = search needs
 
--- src/assemble.rt:50:29
 enum-told-5 : tie.Need-enum-told-5
 enum-told-5 c = search needs
 
--- src/assemble.rt:51:31
 enum-told-6 : tie.Need-enum-told-6
 enum-told-6 c = search needs
 
--- src/assemble.rt:38:1
 returns : tie.Need-returns
 returns c = rw (c .before .seen .given .1)
 
--- src/assemble.rt:38:1
 returns-2 : tie.Need-returns-2
 returns-2 c = rw (c .before .f .given .1, c .before .before .before .enum-told .given .1)
 
--- src/assemble.rt:38:1
 returns-3 : tie.Need-returns-3
 returns-3 c = search needs
 
--- src/assemble.rt:38:1
 returns-4 : tie.Need-returns-4
 returns-4 c = search needs
 
--- src/assemble.rt:38:1
 returns-5 : tie.Need-returns-5
 returns-5 c = rw (c .before .f2 .given .1, c .before .before .before .enum-told4 .given .1)
 
--- src/assemble.rt:38:1
 returns-6 : tie.Need-returns-6
 returns-6 c = search needs
 
--- src/assemble.rt:38:1
 returns-7 : tie.Need-returns-7
 returns-7 c = search needs
 

@@ -1,31 +1,22 @@
 use borrow.Author.Needs.{needs}
 use Rattle.asm.proofs.assemble.check_all.Statement.{statement}
 use Rattle.asm.proofs.assemble.check_all.Tie as tie
-use Rattle.asm.proofs.assemble.check_all.Reads as reads
-use Rattle.asm.proofs.assemble.check_all.Lts as lts
-use Rattle.asm.proofs.assemble.after.Reads as after-reads
 
--- src/assemble.rt:65:29
 after-requires : tie.Need-after-requires
 after-requires c κs = search needs
 
--- src/assemble.rt:65:23
 after-requires-2 : tie.Need-after-requires-2
 after-requires-2 c κs = search needs
 
--- src/assemble.rt:65:17
 after-requires-3 : tie.Need-after-requires-3
 after-requires-3 c κs = search needs
 
--- src/assemble.rt:65:11
 after-requires-4 : tie.Need-after-requires-4
 after-requires-4 c κs = search needs
 
--- src/assemble.rt:65:5
 after-requires-5 : tie.Need-after-requires-5
 after-requires-5 c κs = search needs
 
--- src/assemble.rt:57:1
 returns : tie.Need-returns
 returns c = rw (c .after5 .ensures, c .before .after4 .ensures, c .before .before .after3 .ensures, c .before .before .before .after2 .ensures, c .before .before .before .before .after .ensures)
 

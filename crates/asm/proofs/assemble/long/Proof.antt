@@ -6,52 +6,37 @@ use mathlib.Core.Path.{sym}
 use borrow.Author.Needs.{needs}
 use Rattle.asm.proofs.assemble.long.Statement.{statement}
 use Rattle.asm.proofs.assemble.long.Tie as tie
-use Rattle.asm.proofs.assemble.long.Reads as reads
-use Rattle.asm.proofs.assemble.long.Lts as lts
-use Rattle.asm.proofs.assemble.place.Reads as place-reads
-use Rattle.asm.proofs.assemble.refused.Reads as refused-reads
 
--- src/assemble.rt:129:23
 slice-aggregate-place : tie.Need-slice-aggregate-place
 slice-aggregate-place c = sym (length-take-le 256 (c .before .before .args .line .now) (omega (arith, c .before .before .pre)))
 
--- src/assemble.rt:129:9
 place-requires : tie.Need-place-requires
 place-requires c κs = search needs
 
--- src/assemble.rt:131:19
 enum-known-found : tie.Need-enum-known-found
 enum-known-found c = search needs
 
--- src/assemble.rt:131:25
 refused-requires : tie.Need-refused-requires
 refused-requires c κs = search needs
 
--- src/assemble.rt:132:28
 enum-told : tie.Need-enum-told
 enum-told c = search needs
 
--- src/assemble.rt:132:28
 refused-requires-2 : tie.Need-refused-requires-2
 refused-requires-2 c κs = search needs
 
--- src/assemble.rt:133:29
 enum-told-2 : tie.Need-enum-told-2
 enum-told-2 c = search needs
 
--- src/assemble.rt:133:29
 refused-requires-3 : tie.Need-refused-requires-3
 refused-requires-3 c κs = search needs
 
--- src/assemble.rt:125:1
 returns : tie.Need-returns
 returns c = long-bad _ _ _ (c .before .before .before .before .before .before .before .pre) (rw (c .before .before .found .given .1) at (c .before .before .before .before .place .ensures)) (c .refused .ensures)
 
--- src/assemble.rt:125:1
 returns-2 : tie.Need-returns-2
 returns-2 c = long-row _ _ _ _ (c .before .before .before .before .before .before .pre) (rw (c .before .enum-told .given .1) at (c .before .before .before .place .ensures)) (c .refused2 .ensures)
 
--- src/assemble.rt:125:1
 returns-3 : tie.Need-returns-3
 returns-3 c = placed-printed _ _ (rw (c .before .enum-told2 .given .1) at (c .before .before .before .place .ensures))
 

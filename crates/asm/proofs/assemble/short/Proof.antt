@@ -3,49 +3,34 @@ use Rattle.asm.proofs.Letters.{short-bad}
 use borrow.Author.Needs.{needs}
 use Rattle.asm.proofs.assemble.short.Statement.{statement}
 use Rattle.asm.proofs.assemble.short.Tie as tie
-use Rattle.asm.proofs.assemble.short.Reads as reads
-use Rattle.asm.proofs.assemble.short.Lts as lts
-use Rattle.asm.proofs.assemble.place.Reads as place-reads
-use Rattle.asm.proofs.assemble.refused.Reads as refused-reads
-use Rattle.asm.proofs.assemble.settle.Reads as settle-reads
 
--- src/assemble.rt:116:9
 place-requires : tie.Need-place-requires
 place-requires c κs = search needs
 
--- src/assemble.rt:118:19
 enum-known-found : tie.Need-enum-known-found
 enum-known-found c = search needs
 
--- src/assemble.rt:118:25
 refused-requires : tie.Need-refused-requires
 refused-requires c κs = search needs
 
--- src/assemble.rt:119:19
 enum-known-found-2 : tie.Need-enum-known-found-2
 enum-known-found-2 c = search needs
 
--- src/assemble.rt:119:31
 settle-requires : tie.Need-settle-requires
 settle-requires c κs = search needs
 
--- src/assemble.rt:120:29
 enum-told : tie.Need-enum-told
 enum-told c = search needs
 
--- src/assemble.rt:120:29
 refused-requires-2 : tie.Need-refused-requires-2
 refused-requires-2 c κs = search needs
 
--- src/assemble.rt:112:1
 returns : tie.Need-returns
 returns c = short-bad _ _ _ (c .before .before .before .before .before .before .pre) (rw (c .before .before .found .given .1) at (c .before .before .before .before .place .ensures)) (c .refused .ensures)
 
--- src/assemble.rt:112:1
 returns-2 : tie.Need-returns-2
 returns-2 c = placed-answer _ _ _ _ (rw (c .before .before .found2 .given .1) at (c .before .before .before .before .place .ensures)) (c .before .before .before .before .before .before .pre) (c .settle .ensures)
 
--- src/assemble.rt:112:1
 returns-3 : tie.Need-returns-3
 returns-3 c = placed-printed _ _ (rw (c .before .enum-told .given .1) at (c .before .before .before .place .ensures))
 

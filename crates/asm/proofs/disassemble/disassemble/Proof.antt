@@ -4,55 +4,37 @@ use borrow.Author.Tests.{lt-ltb, le-ltb}
 use borrow.Author.Needs.{needs}
 use Rattle.asm.proofs.disassemble.disassemble.Statement.{statement}
 use Rattle.asm.proofs.disassemble.disassemble.Tie as tie
-use Rattle.asm.proofs.disassemble.disassemble.Reads as reads
-use Rattle.asm.proofs.disassemble.disassemble.Lts as lts
-use Rattle.asm.proofs.queue.is_plain.Reads as is-plain-reads
-use Rattle.asm.proofs.queue.queue_of.Reads as queue-of-reads
-use Rattle.asm.proofs.row.row_of.Reads as row-of-reads
-use Rattle.asm.proofs.table.print_row.Reads as print-row-reads
-use Rattle.insn.proofs.read.read.Reads as read-reads
 
--- src/disassemble.rt:23:9
 returns : tie.Need-returns
 returns c = simp (lt-ltb _ _ (c .if1 .taken)) (refl, refl)
 
--- src/disassemble.rt:25:9
 read-requires : tie.Need-read-requires
 read-requires c κs = search needs
 
--- src/disassemble.rt:27:29
 enum-told : tie.Need-enum-told
 enum-told c = search needs
 
--- src/disassemble.rt:28:23
 enum-known-what : tie.Need-enum-known-what
 enum-known-what c = search needs
 
--- src/disassemble.rt:29:40
 row-of-requires : tie.Need-row-of-requires
 row-of-requires c κs = search needs
 
--- src/disassemble.rt:29:51
 queue-of-requires : tie.Need-queue-of-requires
 queue-of-requires c κs = search needs
 
--- src/disassemble.rt:29:17
 print-row-requires : tie.Need-print-row-requires
 print-row-requires c κs = (row-fits _ _ _ (c .before .before .before .before .what .given .1) (c .before .row-of .ensures), c .before .before .before .before .before .before .before .if1 .left)
 
--- src/disassemble.rt:30:17
 is-plain-requires : tie.Need-is-plain-requires
 is-plain-requires c κs = search needs
 
--- src/disassemble.rt:19:1
 returns-2 : tie.Need-returns-2
 returns-2 c = rw (le-ltb _ _ (c .before .before .before .if1 .left), sym (c .before .before .read .ensures) ∙ c .enum-told .given .1) (refl, refl)
 
--- src/disassemble.rt:19:1
 same-length : tie.Need-same-length
 same-length c = search needs
 
--- src/disassemble.rt:19:1
 returns-3 : tie.Need-returns-3
 returns-3 c = listed-as _ _ _ _ _ _ _ _ (c .before .before .before .before .before .before .before .before .before .before .before .if1 .left) (sym (c .before .before .before .before .before .before .before .before .before .before .read .ensures) ∙ c .before .before .before .before .before .before .before .before .what .given .1) (c .before .before .before .before .before .row-of .ensures) (c .before .before .before .before .queue-of .ensures) (c .before .before .before .print-row .ensures) (c .is-plain .ensures)
 

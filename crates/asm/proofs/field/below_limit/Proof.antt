@@ -1,19 +1,14 @@
 use borrow.Author.Needs.{needs}
-use borrow.Author.Tests.{lt-ltb, le-ltb, eq-eqb, ne-eqb}
+use borrow.Author.Tests.{lt-ltb, le-ltb}
 use Rattle.asm.proofs.field.below_limit.Statement.{statement}
 use Rattle.asm.proofs.field.below_limit.Tie as tie
-use Rattle.asm.proofs.field.below_limit.Reads as reads
-use Rattle.asm.proofs.field.below_limit.Lts as lts
 
--- src/field.rt:20:21
 cast-t5 : tie.Need-cast-t5
 cast-t5 c = search needs
 
--- src/field.rt:15:1
 returns : tie.Need-returns
 returns c = simp (lt-ltb _ _ (c .if1 .taken))
 
--- src/field.rt:15:1
 returns-2 : tie.Need-returns-2
 returns-2 c = simp (le-ltb _ _ (c .if1 .left))
 

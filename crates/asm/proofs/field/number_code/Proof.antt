@@ -1,82 +1,61 @@
 use borrow.Author.Needs.{needs}
 use Rattle.asm.specs.Inside.{rangeOf}
-use borrow.Author.Tests.{lt-ltb, le-ltb, eq-eqb, ne-eqb}
+use borrow.Author.Tests.{eq-eqb, ne-eqb}
 use Rattle.asm.proofs.field.number_code.Statement.{statement}
 use Rattle.asm.proofs.field.number_code.Tie as tie
-use Rattle.asm.proofs.field.number_code.Reads as reads
-use Rattle.asm.proofs.field.number_code.Lts as lts
-use Rattle.asm.proofs.field.signed_code.Reads as signed-code-reads
-use Rattle.asm.proofs.field.target_code.Reads as target-code-reads
-use Rattle.asm.proofs.field.unsigned_code.Reads as unsigned-code-reads
 
--- src/field.rt:78:9
 signed-code-requires : tie.Need-signed-code-requires
 signed-code-requires c κs = search needs
 
--- src/field.rt:80:9
 unsigned-code-requires : tie.Need-unsigned-code-requires
 unsigned-code-requires c κs = search needs
 
--- src/field.rt:82:9
 unsigned-code-requires-2 : tie.Need-unsigned-code-requires-2
 unsigned-code-requires-2 c κs = search needs
 
--- src/field.rt:84:9
 unsigned-code-requires-3 : tie.Need-unsigned-code-requires-3
 unsigned-code-requires-3 c κs = search needs
 
--- src/field.rt:86:9
 unsigned-code-requires-4 : tie.Need-unsigned-code-requires-4
 unsigned-code-requires-4 c κs = search needs
 
--- src/field.rt:88:9
 unsigned-code-requires-5 : tie.Need-unsigned-code-requires-5
 unsigned-code-requires-5 c κs = search needs
 
--- src/field.rt:90:9
 target-code-requires : tie.Need-target-code-requires
 target-code-requires c κs = search needs
 
--- src/field.rt:92:9
 target-code-requires-2 : tie.Need-target-code-requires-2
 target-code-requires-2 c κs = search needs
 
--- src/field.rt:74:1
 returns : tie.Need-returns
 unfolding rangeOf
 returns c = simp (eq-eqb _ _ (c .before .if1 .taken)) (c .signed-code .ensures)
 
--- src/field.rt:74:1
 returns-2 : tie.Need-returns-2
 unfolding rangeOf
 returns-2 c = simp (ne-eqb _ _ (c .before .before .if1 .left), eq-eqb _ _ (c .before .if2 .taken)) (c .unsigned-code .ensures)
 
--- src/field.rt:74:1
 returns-3 : tie.Need-returns-3
 unfolding rangeOf
 returns-3 c = simp (ne-eqb _ _ (c .before .before .before .if1 .left), ne-eqb _ _ (c .before .before .if2 .left), eq-eqb _ _ (c .before .if3 .taken)) (c .unsigned-code2 .ensures)
 
--- src/field.rt:74:1
 returns-4 : tie.Need-returns-4
 unfolding rangeOf
 returns-4 c = simp (ne-eqb _ _ (c .before .before .before .before .if1 .left), ne-eqb _ _ (c .before .before .before .if2 .left), ne-eqb _ _ (c .before .before .if3 .left), eq-eqb _ _ (c .before .if4 .taken)) (c .unsigned-code3 .ensures)
 
--- src/field.rt:74:1
 returns-5 : tie.Need-returns-5
 unfolding rangeOf
 returns-5 c = simp (ne-eqb _ _ (c .before .before .before .before .before .if1 .left), ne-eqb _ _ (c .before .before .before .before .if2 .left), ne-eqb _ _ (c .before .before .before .if3 .left), ne-eqb _ _ (c .before .before .if4 .left), eq-eqb _ _ (c .before .if5 .taken)) (c .unsigned-code4 .ensures)
 
--- src/field.rt:74:1
 returns-6 : tie.Need-returns-6
 unfolding rangeOf
 returns-6 c = simp (ne-eqb _ _ (c .before .before .before .before .before .before .if1 .left), ne-eqb _ _ (c .before .before .before .before .before .if2 .left), ne-eqb _ _ (c .before .before .before .before .if3 .left), ne-eqb _ _ (c .before .before .before .if4 .left), ne-eqb _ _ (c .before .before .if5 .left), eq-eqb _ _ (c .before .if6 .taken)) (c .unsigned-code5 .ensures)
 
--- src/field.rt:74:1
 returns-7 : tie.Need-returns-7
 unfolding rangeOf
 returns-7 c = simp (ne-eqb _ _ (c .before .before .before .before .before .before .before .if1 .left), ne-eqb _ _ (c .before .before .before .before .before .before .if2 .left), ne-eqb _ _ (c .before .before .before .before .before .if3 .left), ne-eqb _ _ (c .before .before .before .before .if4 .left), ne-eqb _ _ (c .before .before .before .if5 .left), ne-eqb _ _ (c .before .before .if6 .left), eq-eqb _ _ (c .before .if7 .taken)) (c .target-code .ensures)
 
--- src/field.rt:74:1
 returns-8 : tie.Need-returns-8
 unfolding rangeOf
 returns-8 c = simp (ne-eqb _ _ (c .before .before .before .before .before .before .before .if1 .left), ne-eqb _ _ (c .before .before .before .before .before .before .if2 .left), ne-eqb _ _ (c .before .before .before .before .before .if3 .left), ne-eqb _ _ (c .before .before .before .before .if4 .left), ne-eqb _ _ (c .before .before .before .if5 .left), ne-eqb _ _ (c .before .before .if6 .left), ne-eqb _ _ (c .before .if7 .left)) (c .target-code2 .ensures)

@@ -1,60 +1,45 @@
 use borrow.Author.Needs.{needs}
-use Rattle.asm.specs.Worth.{signedCode, unsignedCode, targetCode}
-use borrow.Author.Tests.{lt-ltb, le-ltb, eq-eqb, ne-eqb}
+use Rattle.asm.specs.Worth.{signedCode}
+use borrow.Author.Tests.{lt-ltb, le-ltb}
 use Rattle.asm.proofs.field.signed_code.Statement.{statement}
 use Rattle.asm.proofs.field.signed_code.Tie as tie
-use Rattle.asm.proofs.field.signed_code.Reads as reads
-use Rattle.asm.proofs.field.signed_code.Lts as lts
-use Rattle.asm.proofs.field.below_limit.Reads as below-limit-reads
 
--- src/field.rt:32:20
 enum-known-v : tie.Need-enum-known-v
 enum-known-v c = search needs
 
--- src/field.rt:33:21
 enum-known-v-2 : tie.Need-enum-known-v-2
 enum-known-v-2 c = search needs
 
--- src/field.rt:33:27
 below-limit-requires : tie.Need-below-limit-requires
 below-limit-requires c κs = search needs
 
--- src/field.rt:34:22
 enum-known-v-3 : tie.Need-enum-known-v-3
 enum-known-v-3 c = search needs
 
--- src/field.rt:35:26
 mul-t9 : tie.Need-mul-t9
 mul-t9 c = search needs
 
--- src/field.rt:35:26
 sub-t10 : tie.Need-sub-t10
 sub-t10 c = search needs
 
--- src/field.rt:35:26
 sub-t11 : tie.Need-sub-t11
 sub-t11 c = search needs
 
--- src/field.rt:35:25
 cast-t12 : tie.Need-cast-t12
 cast-t12 c = search needs
 
--- src/field.rt:27:1
 returns : tie.Need-returns
 unfolding signedCode
 returns c = rw (c .before .v .given .1)
 
--- src/field.rt:27:1
 returns-2 : tie.Need-returns-2
 unfolding signedCode
 returns-2 c = rw (c .before .before .v2 .given .1) (c .below-limit .ensures)
 
--- src/field.rt:27:1
 returns-3 : tie.Need-returns-3
 unfolding signedCode
 returns-3 c = rw (c .before .before .v3 .given .1, lt-ltb _ _ (c .if1 .taken))
 
--- src/field.rt:27:1
 returns-4 : tie.Need-returns-4
 unfolding signedCode
 returns-4 c = rw (c .before .before .v3 .given .1, le-ltb _ _ (c .if1 .left))

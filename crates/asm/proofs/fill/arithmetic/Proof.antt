@@ -1,84 +1,61 @@
 use borrow.Author.Needs.{needs}
 use Rattle.asm.proofs.fill.arithmetic.Statement.{statement}
 use Rattle.asm.proofs.fill.arithmetic.Tie as tie
-use Rattle.asm.proofs.fill.arithmetic.Reads as reads
-use Rattle.asm.proofs.fill.arithmetic.Lts as lts
-use Rattle.asm.proofs.fill.eight.Reads as eight-reads
-use Rattle.asm.proofs.fill.sixteen.Reads as sixteen-reads
 
--- src/fill.rt:86:33
 enum-known-x : tie.Need-enum-known-x
 enum-known-x c = search needs
 
--- src/fill.rt:88:17
 eight-requires : tie.Need-eight-requires
 eight-requires c κs = search needs
 
--- src/fill.rt:89:17
 eight-requires-2 : tie.Need-eight-requires-2
 eight-requires-2 c κs = search needs
 
--- src/fill.rt:90:17
 sixteen-requires : tie.Need-sixteen-requires
 sixteen-requires c κs = search needs
 
--- src/fill.rt:92:32
 enum-known-x-2 : tie.Need-enum-known-x-2
 enum-known-x-2 c = search needs
 
--- src/fill.rt:94:17
 eight-requires-3 : tie.Need-eight-requires-3
 eight-requires-3 c κs = search needs
 
--- src/fill.rt:95:17
 eight-requires-4 : tie.Need-eight-requires-4
 eight-requires-4 c κs = search needs
 
--- src/fill.rt:96:17
 eight-requires-5 : tie.Need-eight-requires-5
 eight-requires-5 c κs = search needs
 
--- src/fill.rt:100:27
 enum-known-x-3 : tie.Need-enum-known-x-3
 enum-known-x-3 c = search needs
 
--- src/fill.rt:102:17
 eight-requires-6 : tie.Need-eight-requires-6
 eight-requires-6 c κs = search needs
 
--- src/fill.rt:103:17
 eight-requires-7 : tie.Need-eight-requires-7
 eight-requires-7 c κs = search needs
 
--- src/fill.rt:107:32
 enum-known-x-4 : tie.Need-enum-known-x-4
 enum-known-x-4 c = search needs
 
--- src/fill.rt:109:17
 eight-requires-8 : tie.Need-eight-requires-8
 eight-requires-8 c κs = search needs
 
--- src/fill.rt:110:17
 eight-requires-9 : tie.Need-eight-requires-9
 eight-requires-9 c κs = search needs
 
--- src/fill.rt:111:17
 eight-requires-10 : tie.Need-eight-requires-10
 eight-requires-10 c κs = search needs
 
--- src/fill.rt:82:1
 returns : tie.Need-returns
 returns c = rw (c .before .before .before .before .x .given .1, c .sixteen .ensures, c .before .eight2 .ensures, c .before .before .eight .ensures)
 
--- src/fill.rt:82:1
 returns-2 : tie.Need-returns-2
 returns-2 c = rw (c .before .before .before .before .x2 .given .1, c .eight5 .ensures, c .before .eight4 .ensures, c .before .before .eight3 .ensures)
 
--- src/fill.rt:82:1
 returns-3 : tie.Need-returns-3
 returns-3 c = rw (c .before .before .before .x3 .given .1, c .eight7 .ensures, c .before .eight6 .ensures)
 
--- src/fill.rt:82:1
 returns-4 : tie.Need-returns-4
 returns-4 c = rw (c .before .before .before .before .x4 .given .1, c .eight10 .ensures, c .before .eight9 .ensures, c .before .before .eight8 .ensures)
 

@@ -1,52 +1,37 @@
 use borrow.Author.Needs.{needs}
 use Rattle.asm.proofs.fill.branch.Statement.{statement}
 use Rattle.asm.proofs.fill.branch.Tie as tie
-use Rattle.asm.proofs.fill.branch.Reads as reads
-use Rattle.asm.proofs.fill.branch.Lts as lts
-use Rattle.asm.proofs.fill.eight.Reads as eight-reads
-use Rattle.asm.proofs.fill.sixteen.Reads as sixteen-reads
 
--- src/fill.rt:246:26
 enum-known-x : tie.Need-enum-known-x
 enum-known-x c = search needs
 
--- src/fill.rt:247:31
 enum-known-x-2 : tie.Need-enum-known-x-2
 enum-known-x-2 c = search needs
 
--- src/fill.rt:248:17
 eight-requires : tie.Need-eight-requires
 eight-requires c κs = search needs
 
--- src/fill.rt:249:17
 eight-requires-2 : tie.Need-eight-requires-2
 eight-requires-2 c κs = search needs
 
--- src/fill.rt:250:17
 sixteen-requires : tie.Need-sixteen-requires
 sixteen-requires c κs = search needs
 
--- src/fill.rt:254:28
 enum-known-x-3 : tie.Need-enum-known-x-3
 enum-known-x-3 c = search needs
 
--- src/fill.rt:256:17
 eight-requires-3 : tie.Need-eight-requires-3
 eight-requires-3 c κs = search needs
 
--- src/fill.rt:257:17
 eight-requires-4 : tie.Need-eight-requires-4
 eight-requires-4 c κs = search needs
 
--- src/fill.rt:242:1
 returns : tie.Need-returns
 returns c = rw (c .before .x .given .1)
 
--- src/fill.rt:242:1
 returns-2 : tie.Need-returns-2
 returns-2 c = rw (c .before .before .before .before .x2 .given .1, c .sixteen .ensures, c .before .eight2 .ensures, c .before .before .eight .ensures)
 
--- src/fill.rt:242:1
 returns-3 : tie.Need-returns-3
 returns-3 c = rw (c .before .before .before .x3 .given .1, c .eight4 .ensures, c .before .eight3 .ensures)
 

@@ -1,31 +1,22 @@
 use borrow.Author.Needs.{needs}
 use Rattle.asm.proofs.fill.codes_of.Statement.{statement}
 use Rattle.asm.proofs.fill.codes_of.Tie as tie
-use Rattle.asm.proofs.fill.codes_of.Reads as reads
-use Rattle.asm.proofs.fill.codes_of.Lts as lts
-use Rattle.asm.proofs.fill.code.Reads as code-reads
 
--- src/fill.rt:36:12
 code-requires : tie.Need-code-requires
 code-requires c κs = search needs
 
--- src/fill.rt:37:12
 code-requires-2 : tie.Need-code-requires-2
 code-requires-2 c κs = search needs
 
--- src/fill.rt:38:12
 code-requires-3 : tie.Need-code-requires-3
 code-requires-3 c κs = search needs
 
--- src/fill.rt:39:12
 code-requires-4 : tie.Need-code-requires-4
 code-requires-4 c κs = search needs
 
--- src/fill.rt:40:12
 code-requires-5 : tie.Need-code-requires-5
 code-requires-5 c κs = search needs
 
--- src/fill.rt:27:1
 returns : tie.Need-returns
 returns c = rw (c .code5 .ensures, c .before .code4 .ensures, c .before .before .code3 .ensures, c .before .before .before .code2 .ensures, c .before .before .before .before .code .ensures)
 

@@ -1,40 +1,28 @@
 use borrow.Author.Needs.{needs}
 use Rattle.asm.proofs.fill.compare.Statement.{statement}
 use Rattle.asm.proofs.fill.compare.Tie as tie
-use Rattle.asm.proofs.fill.compare.Reads as reads
-use Rattle.asm.proofs.fill.compare.Lts as lts
-use Rattle.asm.proofs.fill.eight.Reads as eight-reads
-use Rattle.asm.proofs.fill.sixteen.Reads as sixteen-reads
 
--- src/fill.rt:147:30
 enum-known-x : tie.Need-enum-known-x
 enum-known-x c = search needs
 
--- src/fill.rt:149:17
 eight-requires : tie.Need-eight-requires
 eight-requires c κs = search needs
 
--- src/fill.rt:150:18
 sixteen-requires : tie.Need-sixteen-requires
 sixteen-requires c κs = search needs
 
--- src/fill.rt:152:29
 enum-known-x-2 : tie.Need-enum-known-x-2
 enum-known-x-2 c = search needs
 
--- src/fill.rt:154:17
 eight-requires-2 : tie.Need-eight-requires-2
 eight-requires-2 c κs = search needs
 
--- src/fill.rt:155:17
 eight-requires-3 : tie.Need-eight-requires-3
 eight-requires-3 c κs = search needs
 
--- src/fill.rt:143:1
 returns : tie.Need-returns
 returns c = rw (c .before .before .before .x .given .1, c .sixteen .ensures, c .before .eight .ensures)
 
--- src/fill.rt:143:1
 returns-2 : tie.Need-returns-2
 returns-2 c = rw (c .before .before .before .x2 .given .1, c .eight3 .ensures, c .before .eight2 .ensures)
 

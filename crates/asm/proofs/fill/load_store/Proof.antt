@@ -1,128 +1,94 @@
 use borrow.Author.Needs.{needs}
 use Rattle.asm.proofs.fill.load_store.Statement.{statement}
 use Rattle.asm.proofs.fill.load_store.Tie as tie
-use Rattle.asm.proofs.fill.load_store.Reads as reads
-use Rattle.asm.proofs.fill.load_store.Lts as lts
-use Rattle.asm.proofs.fill.eight.Reads as eight-reads
-use Rattle.asm.proofs.fill.sixteen.Reads as sixteen-reads
 
--- src/fill.rt:201:27
 enum-known-x : tie.Need-enum-known-x
 enum-known-x c = search needs
 
--- src/fill.rt:204:17
 eight-requires : tie.Need-eight-requires
 eight-requires c κs = search needs
 
--- src/fill.rt:205:17
 eight-requires-2 : tie.Need-eight-requires-2
 eight-requires-2 c κs = search needs
 
--- src/fill.rt:206:16
 sixteen-requires : tie.Need-sixteen-requires
 sixteen-requires c κs = search needs
 
--- src/fill.rt:208:34
 enum-known-x-2 : tie.Need-enum-known-x-2
 enum-known-x-2 c = search needs
 
--- src/fill.rt:210:17
 eight-requires-3 : tie.Need-eight-requires-3
 eight-requires-3 c κs = search needs
 
--- src/fill.rt:211:17
 eight-requires-4 : tie.Need-eight-requires-4
 eight-requires-4 c κs = search needs
 
--- src/fill.rt:212:17
 eight-requires-5 : tie.Need-eight-requires-5
 eight-requires-5 c κs = search needs
 
--- src/fill.rt:214:28
 enum-known-x-3 : tie.Need-enum-known-x-3
 enum-known-x-3 c = search needs
 
--- src/fill.rt:217:17
 eight-requires-6 : tie.Need-eight-requires-6
 eight-requires-6 c κs = search needs
 
--- src/fill.rt:218:17
 eight-requires-7 : tie.Need-eight-requires-7
 eight-requires-7 c κs = search needs
 
--- src/fill.rt:219:16
 sixteen-requires-2 : tie.Need-sixteen-requires-2
 sixteen-requires-2 c κs = search needs
 
--- src/fill.rt:221:35
 enum-known-x-4 : tie.Need-enum-known-x-4
 enum-known-x-4 c = search needs
 
--- src/fill.rt:223:17
 eight-requires-8 : tie.Need-eight-requires-8
 eight-requires-8 c κs = search needs
 
--- src/fill.rt:224:17
 eight-requires-9 : tie.Need-eight-requires-9
 eight-requires-9 c κs = search needs
 
--- src/fill.rt:225:17
 eight-requires-10 : tie.Need-eight-requires-10
 eight-requires-10 c κs = search needs
 
--- src/fill.rt:227:33
 enum-known-x-5 : tie.Need-enum-known-x-5
 enum-known-x-5 c = search needs
 
--- src/fill.rt:229:17
 eight-requires-11 : tie.Need-eight-requires-11
 eight-requires-11 c κs = search needs
 
--- src/fill.rt:230:17
 eight-requires-12 : tie.Need-eight-requires-12
 eight-requires-12 c κs = search needs
 
--- src/fill.rt:231:16
 sixteen-requires-3 : tie.Need-sixteen-requires-3
 sixteen-requires-3 c κs = search needs
 
--- src/fill.rt:233:34
 enum-known-x-6 : tie.Need-enum-known-x-6
 enum-known-x-6 c = search needs
 
--- src/fill.rt:235:17
 eight-requires-13 : tie.Need-eight-requires-13
 eight-requires-13 c κs = search needs
 
--- src/fill.rt:236:17
 eight-requires-14 : tie.Need-eight-requires-14
 eight-requires-14 c κs = search needs
 
--- src/fill.rt:237:16
 sixteen-requires-4 : tie.Need-sixteen-requires-4
 sixteen-requires-4 c κs = search needs
 
--- src/fill.rt:197:1
 returns : tie.Need-returns
 returns c = rw (c .before .before .before .before .x .given .1, c .sixteen .ensures, c .before .eight2 .ensures, c .before .before .eight .ensures)
 
--- src/fill.rt:197:1
 returns-2 : tie.Need-returns-2
 returns-2 c = rw (c .before .before .before .before .x2 .given .1, c .eight5 .ensures, c .before .eight4 .ensures, c .before .before .eight3 .ensures)
 
--- src/fill.rt:197:1
 returns-3 : tie.Need-returns-3
 returns-3 c = rw (c .before .before .before .before .x3 .given .1, c .sixteen2 .ensures, c .before .eight7 .ensures, c .before .before .eight6 .ensures)
 
--- src/fill.rt:197:1
 returns-4 : tie.Need-returns-4
 returns-4 c = rw (c .before .before .before .before .x4 .given .1, c .eight10 .ensures, c .before .eight9 .ensures, c .before .before .eight8 .ensures)
 
--- src/fill.rt:197:1
 returns-5 : tie.Need-returns-5
 returns-5 c = rw (c .before .before .before .before .x5 .given .1, c .sixteen3 .ensures, c .before .eight12 .ensures, c .before .before .eight11 .ensures)
 
--- src/fill.rt:197:1
 returns-6 : tie.Need-returns-6
 returns-6 c = rw (c .before .before .before .before .x6 .given .1, c .sixteen4 .ensures, c .before .eight14 .ensures, c .before .before .eight13 .ensures)
 

@@ -1,64 +1,46 @@
 use borrow.Author.Needs.{needs}
 use Rattle.asm.proofs.fill.logical.Statement.{statement}
 use Rattle.asm.proofs.fill.logical.Tie as tie
-use Rattle.asm.proofs.fill.logical.Reads as reads
-use Rattle.asm.proofs.fill.logical.Lts as lts
-use Rattle.asm.proofs.fill.eight.Reads as eight-reads
-use Rattle.asm.proofs.fill.sixteen.Reads as sixteen-reads
 
--- src/fill.rt:121:30
 enum-known-x : tie.Need-enum-known-x
 enum-known-x c = search needs
 
--- src/fill.rt:123:17
 eight-requires : tie.Need-eight-requires
 eight-requires c κs = search needs
 
--- src/fill.rt:124:17
 eight-requires-2 : tie.Need-eight-requires-2
 eight-requires-2 c κs = search needs
 
--- src/fill.rt:125:17
 sixteen-requires : tie.Need-sixteen-requires
 sixteen-requires c κs = search needs
 
--- src/fill.rt:127:29
 enum-known-x-2 : tie.Need-enum-known-x-2
 enum-known-x-2 c = search needs
 
--- src/fill.rt:129:17
 eight-requires-3 : tie.Need-eight-requires-3
 eight-requires-3 c κs = search needs
 
--- src/fill.rt:130:17
 eight-requires-4 : tie.Need-eight-requires-4
 eight-requires-4 c κs = search needs
 
--- src/fill.rt:131:17
 eight-requires-5 : tie.Need-eight-requires-5
 eight-requires-5 c κs = search needs
 
--- src/fill.rt:134:24
 enum-known-x-3 : tie.Need-enum-known-x-3
 enum-known-x-3 c = search needs
 
--- src/fill.rt:136:17
 eight-requires-6 : tie.Need-eight-requires-6
 eight-requires-6 c κs = search needs
 
--- src/fill.rt:137:17
 eight-requires-7 : tie.Need-eight-requires-7
 eight-requires-7 c κs = search needs
 
--- src/fill.rt:117:1
 returns : tie.Need-returns
 returns c = rw (c .before .before .before .before .x .given .1, c .sixteen .ensures, c .before .eight2 .ensures, c .before .before .eight .ensures)
 
--- src/fill.rt:117:1
 returns-2 : tie.Need-returns-2
 returns-2 c = rw (c .before .before .before .before .x2 .given .1, c .eight5 .ensures, c .before .eight4 .ensures, c .before .before .eight3 .ensures)
 
--- src/fill.rt:117:1
 returns-3 : tie.Need-returns-3
 returns-3 c = rw (c .before .before .before .x3 .given .1, c .eight7 .ensures, c .before .eight6 .ensures)
 

@@ -1,40 +1,28 @@
 use borrow.Author.Needs.{needs}
 use Rattle.asm.proofs.fill.spr.Statement.{statement}
 use Rattle.asm.proofs.fill.spr.Tie as tie
-use Rattle.asm.proofs.fill.spr.Reads as reads
-use Rattle.asm.proofs.fill.spr.Lts as lts
-use Rattle.asm.proofs.fill.eight.Reads as eight-reads
-use Rattle.asm.proofs.fill.sixteen.Reads as sixteen-reads
 
--- src/fill.rt:270:17
 enum-told : tie.Need-enum-told
 enum-told c = search needs
 
--- src/fill.rt:271:17
 eight-requires : tie.Need-eight-requires
 eight-requires c κs = search needs
 
--- src/fill.rt:272:18
 sixteen-requires : tie.Need-sixteen-requires
 sixteen-requires c κs = search needs
 
--- src/fill.rt:275:17
 enum-told-2 : tie.Need-enum-told-2
 enum-told-2 c = search needs
 
--- src/fill.rt:276:17
 eight-requires-2 : tie.Need-eight-requires-2
 eight-requires-2 c κs = search needs
 
--- src/fill.rt:277:18
 sixteen-requires-2 : tie.Need-sixteen-requires-2
 sixteen-requires-2 c κs = search needs
 
--- src/fill.rt:265:1
 returns : tie.Need-returns
 returns c = rw (c .before .before .enum-told .given .1, c .sixteen .ensures, c .before .eight .ensures)
 
--- src/fill.rt:265:1
 returns-2 : tie.Need-returns-2
 returns-2 c = rw (c .before .before .enum-told2 .given .1, c .sixteen2 .ensures, c .before .eight2 .ensures)
 

@@ -1,56 +1,40 @@
 use borrow.Author.Needs.{needs}
 use Rattle.asm.proofs.fill.system.Statement.{statement}
 use Rattle.asm.proofs.fill.system.Tie as tie
-use Rattle.asm.proofs.fill.system.Reads as reads
-use Rattle.asm.proofs.fill.system.Lts as lts
-use Rattle.asm.proofs.fill.eight.Reads as eight-reads
-use Rattle.asm.proofs.fill.spr.Reads as spr-reads
 
--- src/fill.rt:286:23
 enum-known-x : tie.Need-enum-known-x
 enum-known-x c = search needs
 
--- src/fill.rt:286:35
 spr-requires : tie.Need-spr-requires
 spr-requires c κs = search needs
 
--- src/fill.rt:287:24
 enum-known-x-2 : tie.Need-enum-known-x-2
 enum-known-x-2 c = search needs
 
--- src/fill.rt:287:59
 eight-requires : tie.Need-eight-requires
 eight-requires c κs = search needs
 
--- src/fill.rt:288:54
 enum-told : tie.Need-enum-told
 enum-told c = search needs
 
--- src/fill.rt:289:24
 enum-told-2 : tie.Need-enum-told-2
 enum-told-2 c = search needs
 
--- src/fill.rt:290:25
 enum-told-3 : tie.Need-enum-told-3
 enum-told-3 c = search needs
 
--- src/fill.rt:282:1
 returns : tie.Need-returns
 returns c = rw (c .before .before .x .given .1, c .spr .ensures)
 
--- src/fill.rt:282:1
 returns-2 : tie.Need-returns-2
 returns-2 c = rw (c .before .before .x2 .given .1, c .eight .ensures)
 
--- src/fill.rt:282:1
 returns-3 : tie.Need-returns-3
 returns-3 c = rw (c .before .enum-told .given .1)
 
--- src/fill.rt:282:1
 returns-4 : tie.Need-returns-4
 returns-4 c = search needs
 
--- src/fill.rt:282:1
 returns-5 : tie.Need-returns-5
 returns-5 c = search needs
 

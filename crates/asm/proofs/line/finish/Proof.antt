@@ -1,14 +1,10 @@
-use borrow.Author.Tests.{lt-ltb, le-ltb, eq-eqb, ne-eqb}
+use borrow.Author.Tests.{eq-eqb, ne-eqb}
 use Rattle.asm.proofs.line.finish.Statement.{statement}
 use Rattle.asm.proofs.line.finish.Tie as tie
-use Rattle.asm.proofs.line.finish.Reads as reads
-use Rattle.asm.proofs.line.finish.Lts as lts
 
--- src/line.rt:47:1
 returns : tie.Need-returns
 returns c = simp (eq-eqb _ _ (c .if1 .taken))
 
--- src/line.rt:47:1
 returns-2 : tie.Need-returns-2
 returns-2 c = simp (ne-eqb _ _ (c .if1 .left))
 

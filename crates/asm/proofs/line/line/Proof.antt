@@ -2,16 +2,10 @@ use Rattle.asm.proofs.Walk.{spotFrom, item-inside, line-more, line-none
 use Rattle.asm.specs.Inside.{patternOf, spotOf}
 use lib.ListN.{length}
 use Prim.Native.Nat.{_≤_, _-_}
-use mathlib.Core.Path.{_≡_, sym, ap, _∙_}
+use mathlib.Core.Path.{_≡_, sym, _∙_}
 use borrow.Author.Needs.{needs}
 use Rattle.asm.proofs.line.line.Statement.{statement}
 use Rattle.asm.proofs.line.line.Tie as tie
-use Rattle.asm.proofs.line.line.Reads as reads
-use Rattle.asm.proofs.line.line.Lts as lts
-use Rattle.asm.proofs.item.take.Reads as take-reads
-use Rattle.asm.proofs.line.finish.Reads as finish-reads
-use Rattle.asm.proofs.line.no_operands.Reads as no-operands-reads
-use Rattle.asm.proofs.line.push_on.Reads as push-on-reads
 
 abbrev Inv-loop : tie.InvT-loop
 Inv-loop text row i₀ j₀ o₀ i j o = ((i ≤ length text) × (j ≤ length row)) × (spotOf (patternOf row) text ≡ spotFrom text row o i j)
@@ -19,56 +13,43 @@ Inv-loop text row i₀ j₀ o₀ i j o = ((i ≤ length text) × (j ≤ length r
 abbrev μ-loop : tie.MeasureT-loop
 μ-loop text row i₀ j₀ o₀ i j o = length row - j
 
--- src/line.rt:68:9
 no-operands-requires : tie.Need-no-operands-requires Inv-loop μ-loop
 no-operands-requires c κs = search needs
 
--- src/line.rt:69:5
 loop-holds : tie.Need-loop-holds Inv-loop μ-loop
 unfolding spotOf
 loop-holds c = (search needs, rw (c .no-operands .ensures))
 
--- src/line.rt:70:17
 shared-slice-read-c : tie.Need-shared-slice-read-c Inv-loop μ-loop
 shared-slice-read-c c = search needs
 
--- src/line.rt:72:13
 finish-requires : tie.Need-finish-requires Inv-loop μ-loop
 finish-requires c κs = search needs
 
--- src/line.rt:72:13
 returns : tie.Need-returns Inv-loop μ-loop
 returns c = c .finish .ensures ∙ sym (c .before .before .before .before .loop .inv .1 ∙ line-ended _ _ _ _ _ (c .before .before .before .before .loop .inv .0 .0) (c .before .before .before .loop-test .taken) (c .before .if1 .taken))
 
--- src/line.rt:74:13
 take-requires : tie.Need-take-requires Inv-loop μ-loop
 take-requires c κs = search needs
 
--- src/line.rt:76:13
 returns-2 : tie.Need-returns-2 Inv-loop μ-loop
 returns-2 c = sym (c .before .before .before .before .before .loop .inv .1 ∙ line-none _ _ _ _ _ _ (c .before .before .before .before .loop-test .taken) (c .before .before .if1 .left) (c .before .take .ensures) (c .if2 .taken))
 
--- src/line.rt:79:9
 push-on-requires : tie.Need-push-on-requires Inv-loop μ-loop
 push-on-requires c κs = search needs
 
--- src/line.rt:81:9
 add-j : tie.Need-add-j Inv-loop μ-loop
 add-j c = search needs
 
--- src/line.rt:69:5
 loop-less : tie.Need-loop-less Inv-loop μ-loop
 loop-less c = search needs
 
--- src/line.rt:69:5
 loop-again : tie.Need-loop-again Inv-loop μ-loop
 loop-again c = ((item-inside _ _ _ _ (c .before .before .before .before .before .before .loop .inv .0 .0) (c .before .before .take .ensures) (c .before .if2 .left) .1, search needs), c .before .before .before .before .before .before .loop .inv .1 ∙ line-more _ _ _ _ _ _ _ (c .before .before .before .before .before .loop-test .taken) (c .before .before .before .if1 .left) (c .before .before .take .ensures) (c .before .if2 .left) (c .push-on .ensures))
 
--- src/line.rt:83:5
 finish-requires-2 : tie.Need-finish-requires-2 Inv-loop μ-loop
 finish-requires-2 c κs = search needs
 
--- src/line.rt:63:1
 returns-3 : tie.Need-returns-3 Inv-loop μ-loop
 returns-3 c = c .finish2 .ensures ∙ sym (c .before .before .loop .inv .1 ∙ line-over _ _ _ _ _ (c .before .before .loop .inv .0 .0) (c .before .loop-test .left))
 

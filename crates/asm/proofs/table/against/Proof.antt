@@ -1,47 +1,35 @@
 use Prim.Native.Nat.{_+_, _*_, _-_}
 use native.Mathlib.Omega.{arith}
 use Rattle.asm.specs.Inside.{patternAt}
-use mathlib.Core.Path.{_≡_, sym, ap, _∙_}
+use mathlib.Core.Path.{_≡_, _∙_}
 use borrow.Author.Needs.{needs}
 use Rattle.asm.proofs.table.against.Statement.{statement}
 use Rattle.asm.proofs.table.against.Tie as tie
-use Rattle.asm.proofs.table.against.Reads as reads
-use Rattle.asm.proofs.table.against.Lts as lts
-use Rattle.asm.proofs.line.line.Reads as line-reads
 
--- src/table.rt:43:16
 mul-from : tie.Need-mul-from
 mul-from c = search needs
 
--- src/table.rt:43:16
 add-from : tie.Need-add-from
 add-from c = search needs
 
--- src/table.rt:44:14
 mul-to : tie.Need-mul-to
 mul-to c = search needs
 
--- src/table.rt:44:14
 add-to : tie.Need-add-to
 add-to c = search needs
 
--- src/table.rt:45:16
 sub-line : tie.Need-sub-line
 sub-line c = search needs
 
--- src/table.rt:45:16
 part-line-start : tie.Need-part-line-start
 part-line-start c = search needs
 
--- src/table.rt:45:16
 part-line-end : tie.Need-part-line-end
 part-line-end c = search needs
 
--- src/table.rt:45:5
 line-requires : tie.Need-line-requires
 line-requires c κs = search needs
 
--- src/table.rt:39:1
 returns : tie.Need-returns
 unfolding patternAt
 returns c = let q : c .before .before .before .before .args .n * 28 + 28 - (c .before .before .before .before .args .n * 28 + 9) ≡ 19 = omega arith in c .line .ensures ∙ rw q

@@ -3,220 +3,161 @@ use Rattle.asm.specs.Rows.{samples}
 use borrow.Author.Needs.{needs}
 use Rattle.asm.proofs.table.at_letter.Statement.{statement}
 use Rattle.asm.proofs.table.at_letter.Tie as tie
-use Rattle.asm.proofs.table.at_letter.Reads as reads
-use Rattle.asm.proofs.table.at_letter.Lts as lts
-use Rattle.asm.proofs.table.rows_of_a.Reads as rows-of-a-reads
-use Rattle.asm.proofs.table.rows_of_b.Reads as rows-of-b-reads
-use Rattle.asm.proofs.table.rows_of_c.Reads as rows-of-c-reads
-use Rattle.asm.proofs.table.rows_of_d.Reads as rows-of-d-reads
-use Rattle.asm.proofs.table.rows_of_e.Reads as rows-of-e-reads
-use Rattle.asm.proofs.table.rows_of_l.Reads as rows-of-l-reads
-use Rattle.asm.proofs.table.rows_of_m.Reads as rows-of-m-reads
-use Rattle.asm.proofs.table.rows_of_n.Reads as rows-of-n-reads
-use Rattle.asm.proofs.table.rows_of_o.Reads as rows-of-o-reads
-use Rattle.asm.proofs.table.rows_of_r.Reads as rows-of-r-reads
-use Rattle.asm.proofs.table.rows_of_s.Reads as rows-of-s-reads
-use Rattle.asm.proofs.table.rows_of_t.Reads as rows-of-t-reads
-use Rattle.asm.proofs.table.rows_of_w.Reads as rows-of-w-reads
-use Rattle.asm.proofs.table.rows_of_x.Reads as rows-of-x-reads
 
--- src/table.rt:366:17
 rows-of-a-requires : tie.Need-rows-of-a-requires
 unfolding samples
 rows-of-a-requires c κs = letter-needs _ _ (c .before .before .before .before .args .job) (c .before .before .before .before .args .out .now) (c .before .match .keys1) (c .before .before .before .before .pre)
 
--- src/table.rt:367:17
 rows-of-b-requires : tie.Need-rows-of-b-requires
 unfolding samples
 rows-of-b-requires c κs = letter-needs _ _ (c .before .before .before .before .args .job) (c .before .before .before .before .args .out .now) (c .before .match .keys2) (c .before .before .before .before .pre)
 
--- src/table.rt:368:17
 rows-of-c-requires : tie.Need-rows-of-c-requires
 unfolding samples
 rows-of-c-requires c κs = letter-needs _ _ (c .before .before .before .before .args .job) (c .before .before .before .before .args .out .now) (c .before .match .keys3) (c .before .before .before .before .pre)
 
--- src/table.rt:369:17
 rows-of-d-requires : tie.Need-rows-of-d-requires
 unfolding samples
 rows-of-d-requires c κs = letter-needs _ _ (c .before .before .before .before .args .job) (c .before .before .before .before .args .out .now) (c .before .match .keys4) (c .before .before .before .before .pre)
 
--- src/table.rt:370:17
 rows-of-e-requires : tie.Need-rows-of-e-requires
 unfolding samples
 rows-of-e-requires c κs = letter-needs _ _ (c .before .before .before .before .args .job) (c .before .before .before .before .args .out .now) (c .before .match .keys5) (c .before .before .before .before .pre)
 
--- src/table.rt:371:17
 rows-of-l-requires : tie.Need-rows-of-l-requires
 unfolding samples
 rows-of-l-requires c κs = letter-needs _ _ (c .before .before .before .before .args .job) (c .before .before .before .before .args .out .now) (c .before .match .keys6) (c .before .before .before .before .pre)
 
--- src/table.rt:372:17
 rows-of-m-requires : tie.Need-rows-of-m-requires
 unfolding samples
 rows-of-m-requires c κs = letter-needs _ _ (c .before .before .before .before .args .job) (c .before .before .before .before .args .out .now) (c .before .match .keys7) (c .before .before .before .before .pre)
 
--- src/table.rt:373:17
 rows-of-n-requires : tie.Need-rows-of-n-requires
 unfolding samples
 rows-of-n-requires c κs = letter-needs _ _ (c .before .before .before .before .args .job) (c .before .before .before .before .args .out .now) (c .before .match .keys8) (c .before .before .before .before .pre)
 
--- src/table.rt:374:17
 rows-of-o-requires : tie.Need-rows-of-o-requires
 unfolding samples
 rows-of-o-requires c κs = letter-needs _ _ (c .before .before .before .before .args .job) (c .before .before .before .before .args .out .now) (c .before .match .keys9) (c .before .before .before .before .pre)
 
--- src/table.rt:375:17
 rows-of-r-requires : tie.Need-rows-of-r-requires
 unfolding samples
 rows-of-r-requires c κs = letter-needs _ _ (c .before .before .before .before .args .job) (c .before .before .before .before .args .out .now) (c .before .match .keys10) (c .before .before .before .before .pre)
 
--- src/table.rt:376:17
 rows-of-s-requires : tie.Need-rows-of-s-requires
 unfolding samples
 rows-of-s-requires c κs = letter-needs _ _ (c .before .before .before .before .args .job) (c .before .before .before .before .args .out .now) (c .before .match .keys11) (c .before .before .before .before .pre)
 
--- src/table.rt:377:17
 rows-of-t-requires : tie.Need-rows-of-t-requires
 unfolding samples
 rows-of-t-requires c κs = letter-needs _ _ (c .before .before .before .before .args .job) (c .before .before .before .before .args .out .now) (c .before .match .keys12) (c .before .before .before .before .pre)
 
--- src/table.rt:378:17
 rows-of-w-requires : tie.Need-rows-of-w-requires
 unfolding samples
 rows-of-w-requires c κs = letter-needs _ _ (c .before .before .before .before .args .job) (c .before .before .before .before .args .out .now) (c .before .match .keys13) (c .before .before .before .before .pre)
 
--- src/table.rt:379:17
 rows-of-x-requires : tie.Need-rows-of-x-requires
 unfolding samples
 rows-of-x-requires c κs = letter-needs _ _ (c .before .before .before .before .args .job) (c .before .before .before .before .args .out .now) (c .before .match .keys14) (c .before .before .before .before .pre)
 
--- src/table.rt:361:1
 same-length : tie.Need-same-length
 same-length c = search needs
 
--- src/table.rt:361:1
 returns : tie.Need-returns
 unfolding samples
 returns c = letter-gives _ _ _ _ _ _ _ (c .before .before .before .before .match .keys1) (c .before .before .rows-of-a .ensures)
 
--- src/table.rt:361:1
 same-length-2 : tie.Need-same-length-2
 same-length-2 c = search needs
 
--- src/table.rt:361:1
 returns-2 : tie.Need-returns-2
 unfolding samples
 returns-2 c = letter-gives _ _ _ _ _ _ _ (c .before .before .before .before .match .keys2) (c .before .before .rows-of-b .ensures)
 
--- src/table.rt:361:1
 same-length-3 : tie.Need-same-length-3
 same-length-3 c = search needs
 
--- src/table.rt:361:1
 returns-3 : tie.Need-returns-3
 unfolding samples
 returns-3 c = letter-gives _ _ _ _ _ _ _ (c .before .before .before .before .match .keys3) (c .before .before .rows-of-c .ensures)
 
--- src/table.rt:361:1
 same-length-4 : tie.Need-same-length-4
 same-length-4 c = search needs
 
--- src/table.rt:361:1
 returns-4 : tie.Need-returns-4
 unfolding samples
 returns-4 c = letter-gives _ _ _ _ _ _ _ (c .before .before .before .before .match .keys4) (c .before .before .rows-of-d .ensures)
 
--- src/table.rt:361:1
 same-length-5 : tie.Need-same-length-5
 same-length-5 c = search needs
 
--- src/table.rt:361:1
 returns-5 : tie.Need-returns-5
 unfolding samples
 returns-5 c = letter-gives _ _ _ _ _ _ _ (c .before .before .before .before .match .keys5) (c .before .before .rows-of-e .ensures)
 
--- src/table.rt:361:1
 same-length-6 : tie.Need-same-length-6
 same-length-6 c = search needs
 
--- src/table.rt:361:1
 returns-6 : tie.Need-returns-6
 unfolding samples
 returns-6 c = letter-gives _ _ _ _ _ _ _ (c .before .before .before .before .match .keys6) (c .before .before .rows-of-l .ensures)
 
--- src/table.rt:361:1
 same-length-7 : tie.Need-same-length-7
 same-length-7 c = search needs
 
--- src/table.rt:361:1
 returns-7 : tie.Need-returns-7
 unfolding samples
 returns-7 c = letter-gives _ _ _ _ _ _ _ (c .before .before .before .before .match .keys7) (c .before .before .rows-of-m .ensures)
 
--- src/table.rt:361:1
 same-length-8 : tie.Need-same-length-8
 same-length-8 c = search needs
 
--- src/table.rt:361:1
 returns-8 : tie.Need-returns-8
 unfolding samples
 returns-8 c = letter-gives _ _ _ _ _ _ _ (c .before .before .before .before .match .keys8) (c .before .before .rows-of-n .ensures)
 
--- src/table.rt:361:1
 same-length-9 : tie.Need-same-length-9
 same-length-9 c = search needs
 
--- src/table.rt:361:1
 returns-9 : tie.Need-returns-9
 unfolding samples
 returns-9 c = letter-gives _ _ _ _ _ _ _ (c .before .before .before .before .match .keys9) (c .before .before .rows-of-o .ensures)
 
--- src/table.rt:361:1
 same-length-10 : tie.Need-same-length-10
 same-length-10 c = search needs
 
--- src/table.rt:361:1
 returns-10 : tie.Need-returns-10
 unfolding samples
 returns-10 c = letter-gives _ _ _ _ _ _ _ (c .before .before .before .before .match .keys10) (c .before .before .rows-of-r .ensures)
 
--- src/table.rt:361:1
 same-length-11 : tie.Need-same-length-11
 same-length-11 c = search needs
 
--- src/table.rt:361:1
 returns-11 : tie.Need-returns-11
 unfolding samples
 returns-11 c = letter-gives _ _ _ _ _ _ _ (c .before .before .before .before .match .keys11) (c .before .before .rows-of-s .ensures)
 
--- src/table.rt:361:1
 same-length-12 : tie.Need-same-length-12
 same-length-12 c = search needs
 
--- src/table.rt:361:1
 returns-12 : tie.Need-returns-12
 unfolding samples
 returns-12 c = letter-gives _ _ _ _ _ _ _ (c .before .before .before .before .match .keys12) (c .before .before .rows-of-t .ensures)
 
--- src/table.rt:361:1
 same-length-13 : tie.Need-same-length-13
 same-length-13 c = search needs
 
--- src/table.rt:361:1
 returns-13 : tie.Need-returns-13
 unfolding samples
 returns-13 c = letter-gives _ _ _ _ _ _ _ (c .before .before .before .before .match .keys13) (c .before .before .rows-of-w .ensures)
 
--- src/table.rt:361:1
 same-length-14 : tie.Need-same-length-14
 same-length-14 c = search needs
 
--- src/table.rt:361:1
 returns-14 : tie.Need-returns-14
 unfolding samples
 returns-14 c = letter-gives _ _ _ _ _ _ _ (c .before .before .before .before .match .keys14) (c .before .before .rows-of-x .ensures)
 
--- src/table.rt:361:1
 returns-15 : tie.Need-returns-15
 returns-15 c = none-given _ _ _ _ (c .match .rest) (c .before .before .before .pre)
 

@@ -1,14 +1,10 @@
-use borrow.Author.Tests.{lt-ltb, le-ltb, eq-eqb, ne-eqb}
+use borrow.Author.Tests.{lt-ltb, le-ltb}
 use Rattle.asm.proofs.table.larger_of.Statement.{statement}
 use Rattle.asm.proofs.table.larger_of.Tie as tie
-use Rattle.asm.proofs.table.larger_of.Reads as reads
-use Rattle.asm.proofs.table.larger_of.Lts as lts
 
--- src/table.rt:32:1
 returns : tie.Need-returns
 returns c = simp (lt-ltb _ _ (c .if1 .taken))
 
--- src/table.rt:32:1
 returns-2 : tie.Need-returns-2
 returns-2 c = simp (le-ltb _ _ (c .if1 .left))
 

@@ -2,51 +2,37 @@ use Rattle.asm.proofs.Letters.{not-row, not-bad}
 use borrow.Author.Needs.{needs}
 use Rattle.asm.proofs.table.print_row.Statement.{statement}
 use Rattle.asm.proofs.table.print_row.Tie as tie
-use Rattle.asm.proofs.table.print_row.Reads as reads
-use Rattle.asm.proofs.table.print_row.Lts as lts
-use Rattle.asm.proofs.table.at_letter.Reads as at-letter-reads
 
--- src/table.rt:389:67
 slice-aggregate-at-letter : tie.Need-slice-aggregate-at-letter
 slice-aggregate-at-letter c = search needs
 
--- src/table.rt:389:9
 at-letter-requires : tie.Need-at-letter-requires
 at-letter-requires c κs = search needs
 
--- src/table.rt:391:23
 enum-known-done : tie.Need-enum-known-done
 enum-known-done c = search needs
 
--- src/table.rt:392:28
 enum-told : tie.Need-enum-told
 enum-told c = search needs
 
--- src/table.rt:393:25
 enum-told-2 : tie.Need-enum-told-2
 enum-told-2 c = search needs
 
--- src/table.rt:385:1
 same-length : tie.Need-same-length
 same-length c = search needs
 
--- src/table.rt:385:1
 returns : tie.Need-returns
 returns c = rw (c .before .done .given .1) at (c .before .before .before .before .before .at-letter .ensures)
 
--- src/table.rt:385:1
 same-length-2 : tie.Need-same-length-2
 same-length-2 c = search needs
 
--- src/table.rt:385:1
 returns-2 : tie.Need-returns-2
 returns-2 c = not-row _ _ _ _ _ _ _ _ _ (c .before .before .before .before .at-letter .ensures) (c .enum-told .given .1)
 
--- src/table.rt:385:1
 same-length-3 : tie.Need-same-length-3
 same-length-3 c = search needs
 
--- src/table.rt:385:1
 returns-3 : tie.Need-returns-3
 returns-3 c = not-bad _ _ _ _ _ _ _ _ (c .before .before .before .before .at-letter .ensures) (c .enum-told2 .given .1)
 

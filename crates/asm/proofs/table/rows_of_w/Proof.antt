@@ -1,6 +1,5 @@
 use borrow.Author.Needs.{needs}
 use mathlib.Core.Path.{refl}
-use mathlib.Core.Bool.{true}
 use Rattle.insn.specs.Valid.{regOf, isSpr, readOnly}
 use Rattle.expr.specs.Grammar.{isDigit}
 use Rattle.expr.specs.Evaluate.{digitOf}

@@ -3,15 +3,10 @@ use Rattle.asm.specs.Inside.{rowsFrom}
 use native.Mathlib.Nat.{sub-zero}
 use Prim.Native.Nat.{_≤_, _-_}
 use native.Mathlib.Omega.{arith}
-use mathlib.Core.Path.{_≡_, sym, ap, _∙_}
+use mathlib.Core.Path.{_≡_, sym, _∙_}
 use borrow.Author.Needs.{needs}
 use Rattle.asm.proofs.table.search.Statement.{statement}
 use Rattle.asm.proofs.table.search.Tie as tie
-use Rattle.asm.proofs.table.search.Reads as reads
-use Rattle.asm.proofs.table.search.Lts as lts
-use Rattle.asm.proofs.table.against.Reads as against-reads
-use Rattle.asm.proofs.table.larger_of.Reads as larger-of-reads
-use Rattle.asm.proofs.table.word_at.Reads as word-at-reads
 
 abbrev Inv-loop : tie.InvT-loop
 Inv-loop text rows count n₀ best₀ n best = (n ≤ count) × (rowsFrom count 0 0 rows text ≡ rowsFrom (count - n) n best rows text)
@@ -19,47 +14,36 @@ Inv-loop text rows count n₀ best₀ n best = (n ≤ count) × (rowsFrom count 
 abbrev μ-loop : tie.MeasureT-loop
 μ-loop text rows count n₀ best₀ n best = count - n
 
--- src/table.rt:63:5
 loop-holds : tie.Need-loop-holds Inv-loop μ-loop
 loop-holds c = (search needs, rw sub-zero)
 
--- src/table.rt:64:13
 against-requires : tie.Need-against-requires Inv-loop μ-loop
 against-requires c κs = omega arith
 
--- src/table.rt:66:25
 enum-known-spot : tie.Need-enum-known-spot Inv-loop μ-loop
 enum-known-spot c = search needs
 
--- src/table.rt:67:34
 word-at-requires : tie.Need-word-at-requires Inv-loop μ-loop
 word-at-requires c κs = omega arith
 
--- src/table.rt:67:17
 returns : tie.Need-returns Inv-loop μ-loop
 returns c = sym (c .before .before .before .before .before .before .loop .inv .1 ∙ rows-row _ _ _ _ _ _ _ _ (c .before .before .before .before .before .loop-test .taken) (c .before .before .before .before .against .ensures) (c .before .before .spot .given .1) (c .word-at .ensures))
 
--- src/table.rt:69:23
 enum-known-spot-2 : tie.Need-enum-known-spot-2 Inv-loop μ-loop
 enum-known-spot-2 c = search needs
 
--- src/table.rt:70:17
 larger-of-requires : tie.Need-larger-of-requires Inv-loop μ-loop
 larger-of-requires c κs = search needs
 
--- src/table.rt:73:9
 add-n : tie.Need-add-n Inv-loop μ-loop
 add-n c = search needs
 
--- src/table.rt:63:5
 loop-less : tie.Need-loop-less Inv-loop μ-loop
 loop-less c = search needs
 
--- src/table.rt:63:5
 loop-again : tie.Need-loop-again Inv-loop μ-loop
 loop-again c = (search needs, c .before .before .before .before .before .before .loop .inv .1 ∙ rows-more _ _ _ _ _ _ _ _ (c .before .before .before .before .before .loop-test .taken) (c .before .before .before .before .against .ensures) (c .before .before .spot2 .given .1) (c .larger-of .ensures))
 
--- src/table.rt:57:1
 returns-2 : tie.Need-returns-2 Inv-loop μ-loop
 returns-2 c = sym (c .before .loop .inv .1 ∙ rows-end _ _ _ _ _ (c .loop-test .left))
 

@@ -2,36 +2,25 @@ use Rattle.asm.proofs.Letters.{print-fits, print-done, read-done}
 use borrow.Author.Needs.{needs}
 use Rattle.asm.proofs.table.work.Statement.{statement}
 use Rattle.asm.proofs.table.work.Tie as tie
-use Rattle.asm.proofs.table.work.Reads as reads
-use Rattle.asm.proofs.table.work.Lts as lts
-use Rattle.asm.proofs.table.print_in.Reads as print-in-reads
-use Rattle.asm.proofs.table.search.Reads as search-reads
 
--- src/table.rt:95:22
 enum-told : tie.Need-enum-told
 enum-told c = search needs
 
--- src/table.rt:95:22
 search-requires : tie.Need-search-requires
 search-requires c κs = search needs
 
--- src/table.rt:96:20
 enum-known-job : tie.Need-enum-known-job
 enum-known-job c = search needs
 
--- src/table.rt:96:43
 print-in-requires : tie.Need-print-in-requires
 print-in-requires c κs = print-fits _ _ _ _ _ _ (c .before .before .job .given .1) (c .before .before .before .before .before .before .before .pre .0) (c .before .before .before .before .before .before .before .pre .1)
 
--- src/table.rt:89:1
 returns : tie.Need-returns
 returns c = read-done _ _ _ _ _ _ (c .before .enum-told .given .1) (c .search .ensures)
 
--- src/table.rt:89:1
 same-length : tie.Need-same-length
 same-length c = search needs
 
--- src/table.rt:89:1
 returns-2 : tie.Need-returns-2
 returns-2 c = print-done _ _ _ _ _ _ _ _ _ (c .before .before .before .before .before .job .given .1) (c .before .before .print-in .ensures)
 
