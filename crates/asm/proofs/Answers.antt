@@ -32,7 +32,7 @@ use Rattle.asm.specs.declared.table.Done.{Done}
 use Rattle.asm.specs.declared.assemble.Check.{Check}
 use Rattle.asm.specs.declared.assemble.Assembled.{Assembled}
 use Rattle.asm.proofs.Lines.{LineRead, Parsed, line-read, line-complete, line-stuck, line-unique, sooner, Some, some-line}
-use Rattle.asm.proofs.Rows.{Right, right-at, Stopped, Reached, Ran, ran, Listed, found, not-printed}
+use Rattle.asm.proofs.Rows.{Right, right-at, Stopped, Reached, Ran, ran, Listed, found, bad-same, not-printed}
 use Rattle.asm.proofs.Samples.{sample-at, sample-shape}
 use Rattle.asm.proofs.Filled.{pushAll, fill-back, fill-shape, fill-plain, fill-codes, spelt-same}
 use Rattle.asm.proofs.Fields.{gather-push, fields-count, folded, check-fold, fine-off, fine-unfit, Contents, fine-fine, codes-fine, codes-none, codes-same, bounded-fields}
@@ -233,9 +233,6 @@ long-whole s l h =
 
 -- ---- what the rows of the first byte say
 
-bad-same : (a b : ℕ) → Done.Bad a ≡ Done.Bad b → a ≡ b
-bad-same a b e = cc
-
 pub placed-bad : (s : List ℕ) (k : ℕ) → Placed s (Done.Bad k) → Ends s k
 unfolding Placed
 placed-bad [] k e = rw (bad-same k 0 e) empty-ends
@@ -298,7 +295,7 @@ spelt-none s i p h = ap firstOff (fields-once s h (has p) ∙ p .fields) ∙ cod
 at-none : {C : Type 0} (k : ℕ) → at k ≡ none → C
 at-none k e = let z : _≡_ {A = ℕ} 0 1 = cc in let y : ⊥ = omega arith in absurd y
 
-at-same : (j k : ℕ) → at j ≡ at k → j ≡ k
+pub at-same : (j k : ℕ) → at j ≡ at k → j ≡ k
 at-same j k e = cc
 
 -- every line has one answer

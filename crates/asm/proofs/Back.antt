@@ -23,6 +23,7 @@ use Rattle.asm.specs.LineOf.{decimal, signedText, numberText, registerTe
 use Rattle.asm.specs.Rows.{samples, samplesA, samplesB, samplesC, samplesD, samplesE, samplesL, samplesM, samplesN, samplesO, samplesR, samplesS, samplesT, samplesW, samplesX, rowOf}
 use Rattle.asm.specs.Inside.{wideItem, wide}
 use Rattle.asm.specs.declared.field.Field.{Field}
+use Rattle.asm.proofs.Printing.{decimal-length, signed-length}
 use Rattle.asm.proofs.Samples.{sample-shape, sample-at, row-in}
 use Rattle.asm.proofs.Filled.{sizeOf, Fit, fit-written}
 
@@ -205,20 +206,6 @@ unfolding shapeOf lineOf
 line-back i v = let r = pieces (written i) (fit-written i v) in record { parts = r .parts; line = r .line; text = r .text; fields = r .fields 0 }
 
 -- no operand takes more than nine bytes
-decimal-length : (k n : ℕ) → length (decimal k n) ≤ k
-unfolding decimal
-decimal-length zero n = omega arith
-decimal-length (suc k) n =
-    split-lt n 10
-    (λ l. rw (lt-ltb n 10 l) (omega arith))
-    (λ l. rw (le-ltb n 10 l) (omega (arith, length-append (decimal k (n / 10)) ((48 + n % 10) ∷ []), decimal-length k (n / 10))))
-
-signed-length : (unit h n : ℕ) → length (signedText unit h n) ≤ 9
-signed-length unit h n =
-    split-lt n h
-    (λ l. rw (text-plus unit h n l) (omega (arith, decimal-length 8 (unit * n))))
-    (λ l. rw (text-minus unit h n l) (omega (arith, decimal-length 8 (unit * (2 * h - n)))))
-
 piece-length : (p : Piece) → length (pieceText p) ≤ wideItem (itemOf p)
 piece-length (letter c) = omega arith
 piece-length (gpr n) = omega (arith, decimal-length 2 n)

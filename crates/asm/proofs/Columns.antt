@@ -17,6 +17,7 @@ use Rattle.asm.specs.Worth.{below, signedCode, unsignedCode, targetCode,
 use Rattle.asm.specs.Answer.{Answer, accepted, stopped as answer-stopped, outside, invalid, fieldsOf}
 use Rattle.asm.specs.declared.field.Field.{Field}
 use Rattle.asm.specs.declared.assemble.Assembled.{Assembled}
+use Rattle.asm.proofs.Answers.{at-same}
 
 off-same : (j k : ℕ) → Value.Off j ≡ Value.Off k → j ≡ k
 off-same j k e = cc
@@ -117,9 +118,6 @@ number-off r i (value x) k e = off-e x i k (code-off r (evalE x i) k e)
 number-off r i (byte c) k e = no-unfit k e
 number-off r i (register d ds) k e = no-unfit k e
 number-off r i lone k e = no-unfit k e
-
-at-same : (j k : ℕ) → at j ≡ at k → j ≡ k
-at-same j k e = cc
 
 first-off : (f : Field) (fs : List Field) (k : ℕ) → firstOff (f ∷ fs) ≡ at k → (f ≡ Field.Off k) ⊎ (firstOff fs ≡ at k)
 unfolding firstOff

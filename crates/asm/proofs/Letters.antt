@@ -12,9 +12,9 @@ use Rattle.insn.specs.declared.instr.Instr.{Instr}
 use Rattle.insn.specs.declared.instr.Decoded.{Decoded}
 use Rattle.asm.specs.Syntax.{Item, shapeOf, plain}
 use Rattle.asm.specs.LineOf.{lineOf}
-use Rattle.asm.specs.Listing.{queueOf, listedOf, listedOut}
+use Rattle.asm.specs.Listing.{listedOf, listedOut}
 use Rattle.asm.specs.Answer.{Answer, stopped as answer-stopped}
-use Rattle.asm.specs.Rows.{samples, samplesA, samplesB, samplesC, samplesD, samplesE, samplesL, samplesM, samplesN, samplesO, samplesR, samplesS, samplesT, samplesW, samplesX, sampleOf, rowOf}
+use Rattle.asm.specs.Rows.{samples, samplesA, samplesB, samplesC, samplesD, samplesE, samplesL, samplesM, samplesN, samplesO, samplesR, samplesS, samplesT, samplesW, samplesX, sampleOf, rowOf, queueOf}
 use lib.Seq.{sets}
 use Rattle.asm.specs.Inside.{patternAt, wide, printed, rowsFrom, doneOf, outOf, Printable, matchesFrom, matches, WithRows, Placed, refusedWith}
 use Rattle.asm.specs.declared.queue.Queue.{Queue}

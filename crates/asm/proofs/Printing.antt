@@ -24,7 +24,7 @@ use Rattle.insn.specs.declared.instr.SprOp.{SprOp}
 use Rattle.insn.specs.declared.instr.Sign.{Sign}
 use Rattle.asm.specs.Syntax.{Range, signed, unsigned, target, Item, lit, reg, zreg, num, Piece, letter, SI, R, D, letters, commas, spelt, arithImmBase, compareImm, itemsOf, shapeOf}
 use Rattle.asm.specs.LineOf.{decimal, signedText, numberText, pieceTexts, lineOf}
-use Rattle.asm.specs.Listing.{queued, queueOf}
+use Rattle.asm.specs.Rows.{queued, queueOf}
 use Rattle.asm.specs.Inside.{rangeOf, isOperand, operandAt, itemAt, patternOf, nextOf, operandText, queueAfter, printed, wideItem, wide}
 use Rattle.asm.specs.declared.queue.Queue.{Queue}
 
@@ -101,7 +101,7 @@ number-text c n = by (eqb c 83) (eqb c 85) (eqb c 78) (eqb c 67) (eqb c 80) (eqb
     by false false false false false false false = refl
 
 -- an operand takes at most nine bytes
-signed-length : (unit h n : ℕ) → length (signedText unit h n) ≤ 9
+pub signed-length : (unit h n : ℕ) → length (signedText unit h n) ≤ 9
 unfolding signedText
 signed-length unit h n = by (ltb n h)
   where
@@ -122,14 +122,6 @@ text-length (num (unsigned m)) n = omega (arith, decimal-length 8 n)
 text-length (num (target h)) n = signed-length 4 h n
 
 -- the letters of the operands
-pub operand-item : (c : ℕ) (b : Bool) → b ≡ isOperand c → b ≡ true → itemAt c ≡ operandAt c
-unfolding itemAt
-operand-item c b e h = rw (← e, h)
-
-pub byte-item : (c : ℕ) (b : Bool) → b ≡ isOperand c → b ≡ false → itemAt c ≡ lit c
-unfolding itemAt
-byte-item c b e h = rw (← e, h)
-
 pub operand-wide : (c : ℕ) → wideItem (operandAt c) ≡ 9
 unfolding operandAt
 operand-wide c = by (eqb c 82) (eqb c 90)

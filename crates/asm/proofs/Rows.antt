@@ -153,7 +153,7 @@ pub record Ran (t : List ℕ) (c n best : ℕ) (s : List ℕ) (k : ℕ) : Type 0
   pub each : (m : ℕ) → n ≤ m → m < n + c → Stopped t m s k
   pub top : (k ≡ best) ⊎ Reached t n c s k
 
-bad-same : (a b : ℕ) → Done.Bad a ≡ Done.Bad b → a ≡ b
+pub bad-same : (a b : ℕ) → Done.Bad a ≡ Done.Bad b → a ≡ b
 bad-same a b e = cc
 
 no-row : {C : Type 0} (w : ℕ) (o : Operands) (b : ℕ) → Done.Row w o ≡ Done.Bad b → C

@@ -1,4 +1,4 @@
--- What is answered for a line, by the grammar, the values and the instructions alone.
+-- What is answered for a line, by the grammar, the values and the instructions alone (C-12: 11, then 12, then 6).
 use Prim.Native.Nat.{ℕ, _+_, _≤_, _<_}
 use mathlib.Core.Path.{_≡_}
 use mathlib.Core.Bool.{true}

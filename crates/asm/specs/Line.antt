@@ -1,4 +1,4 @@
--- The grammar of lines: a line has a part for each item of a shape, and no byte more.
+-- The grammar of lines (C-12, docs/DECISIONS.md D39): a line has a part for each item of a shape, and no byte more.
 use Prim.Native.Nat.{ℕ}
 use mathlib.Core.Path.{_≡_}
 use mathlib.Core.Bool.{true, false}

@@ -1,4 +1,4 @@
--- The line that is written for an instruction: registers as r and their number, numbers in decimal, for (RA|0) with r0 a lone 0.
+-- The line that is written for an instruction: registers as r and their number, numbers in decimal, for (RA|0) with r0 a lone 0 (docs/DECISIONS.md D41).
 use Prim.Native.Nat.{ℕ, zero, suc, _+_, _-_, _*_, _/_, _%_}
 use mathlib.Core.Bool.{true, false}
 use mathlib.Core.List.{List, [], _∷_, _++_}

@@ -1,4 +1,4 @@
--- What the operands of a line hold: the contents of their fields, or why they have none.
+-- What the operands of a line hold: the contents of their fields (Power ISA 2.07, instruction fields), or why they have none (C-12).
 use Prim.Native.Nat.{ℕ, _+_, _-_, _*_, _/_, _%_}
 use mathlib.Core.Bool.{Bool, true, false}
 use mathlib.Core.List.{List, [], _∷_}

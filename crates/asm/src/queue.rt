@@ -3,7 +3,7 @@ ghost use mathlib.Core.Path.{_≡_};
 ghost use Rattle.word.specs.Bits.{digit};
 ghost use Rattle.asm.specs.Syntax.{plain};
 ghost use Rattle.asm.specs.Inside.{nextOf};
-ghost use Rattle.asm.specs.Listing.{queued, queueOf};
+ghost use Rattle.asm.specs.Rows.{queued, queueOf};
 ghost use Rattle.insn.specs.declared.instr.Instr.{Instr};
 ghost use Rattle.insn.specs.declared.instr.System.{System};
 use insn::instr::*;

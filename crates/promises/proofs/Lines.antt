@@ -50,19 +50,39 @@ stopped-when s r n (stopped k x) = refl
 stopped-when s r n (outside k l h x) = let z : ⊥ = n l h in absurd z
 stopped-when s r n (invalid l h x m) = let z : ⊥ = n l h in absurd z
 
--- 12: the first value outside its range starts at the column
+-- 12: a line of the grammar, in which the first value outside its range starts at the column
+pub record Outside (s : List ℕ) (r : Assembled) : Type 0 where
+  pub short : length s ≤ 256
+  pub has : Has s
+  pub first : firstOff (fieldsOf has) ≡ at (r .column)
+  pub word : r .word ≡ 0
+
+pub outside-is : (s : List ℕ) (r : Assembled) → Answer s r → r .refusal ≡ 12 → Outside s r
+outside-is s r (accepted i l p v) e = let z : ⊥ = omega (arith, e) in absurd z
+outside-is s r (stopped k x) e = let z : ⊥ = omega (arith, e) in absurd z
+outside-is s r (outside k l h x) e = record { short = l; has = h; first = x; word = refl }
+outside-is s r (invalid l h x n) e = let z : ⊥ = omega (arith, e) in absurd z
+
 pub outside-when : (s : List ℕ) (h : Has s) (k : ℕ) (r : Assembled) → length s ≤ 256 → firstOff (fieldsOf h) ≡ at k → Answer s r → r ≡ record { refusal = 12; column = k; word = 0 }
 outside-when s h k r l e a = answer-once s r _ a (outside k l h e)
 
--- 6: every value is in range, and no valid instruction has the line
-pub invalid-when : (s : List ℕ) (h : Has s) (r : Assembled) → length s ≤ 256 → firstOff (fieldsOf h) ≡ none → ((i : Instr) → Spells s i → validOf i ≡ true → ⊥) → Answer s r → r ≡ record { refusal = 6; column = 0; word = 0 }
-invalid-when s h r l e n a = answer-once s r _ a (invalid l h e n)
+-- 6: a line of the grammar with every value in range, which is no valid instruction's
+pub record Invalid (s : List ℕ) (r : Assembled) : Type 0 where
+  pub short : length s ≤ 256
+  pub has : Has s
+  pub inside : firstOff (fieldsOf has) ≡ none
+  pub nobody : (i : Instr) → Spells s i → validOf i ≡ true → ⊥
+  pub column : r .column ≡ 0
+  pub word : r .word ≡ 0
 
-pub invalid-is : (s : List ℕ) (r : Assembled) → Answer s r → r .refusal ≡ 6 → (i : Instr) → Spells s i → validOf i ≡ true → ⊥
+pub invalid-is : (s : List ℕ) (r : Assembled) → Answer s r → r .refusal ≡ 6 → Invalid s r
 invalid-is s r (accepted i l p v) e = let z : ⊥ = omega (arith, e) in absurd z
 invalid-is s r (stopped k x) e = let z : ⊥ = omega (arith, e) in absurd z
 invalid-is s r (outside k l h x) e = let z : ⊥ = omega (arith, e) in absurd z
-invalid-is s r (invalid l h x n) e = n
+invalid-is s r (invalid l h x n) e = record { short = l; has = h; inside = x; nobody = n; column = refl; word = refl }
+
+pub invalid-when : (s : List ℕ) (h : Has s) (r : Assembled) → length s ≤ 256 → firstOff (fieldsOf h) ≡ none → ((i : Instr) → Spells s i → validOf i ≡ true → ⊥) → Answer s r → r ≡ record { refusal = 6; column = 0; word = 0 }
+invalid-when s h r l e n a = answer-once s r _ a (invalid l h e n)
 
 -- what a listing shows for a word assembles to that word, unless it says that a field is left out
 pub listing-assembles : (w : ℕ) (i : Instr) (r : Assembled) → decodeOf w ≡ Decoded.Insn i → plain i ≡ true → Answer (lineOf i) r → r ≡ record { refusal = 0; column = 0; word = w }

@@ -1,5 +1,7 @@
+use mathlib.Core.Path.{sym, _∙_}
 -- `asm::print::after` meets its contract: by whether the byte is a letter. Assumes nothing.
-use Rattle.asm.proofs.Printing.{operand-item, byte-item, operand-after}
+use Rattle.asm.proofs.Printing.{operand-after}
+use Rattle.asm.proofs.Walk.{item-operand, item-byte}
 use borrow.Author.Needs.{needs}
 use Rattle.asm.proofs.print.after.Statement.{statement}
 use Rattle.asm.proofs.print.after.Tie as tie
@@ -10,5 +12,5 @@ after-spec =
     (tie.spec
     (λ c κs. search needs)
     (λ c κs. search needs)
-    (λ c. rw (operand-item _ _ (c .before .before .is-operand .ensures) (c .before .if1 .taken), operand-after) (c .next .ensures))
-    (λ c. rw (byte-item _ _ (c .before .is-operand .ensures) (c .if1 .left))))
+    (λ c. rw (item-operand _ (sym (c .before .before .is-operand .ensures) ∙ c .before .if1 .taken), operand-after) (c .next .ensures))
+    (λ c. rw (item-byte _ (sym (c .before .is-operand .ensures) ∙ c .if1 .left))))

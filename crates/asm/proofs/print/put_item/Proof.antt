@@ -1,6 +1,8 @@
+use mathlib.Core.Path.{sym, _∙_}
 -- `asm::print::put_item` meets its contract: by whether the byte is a letter. Assumes nothing.
 use native.Mathlib.Omega.{arith}
-use Rattle.asm.proofs.Printing.{operand-item, byte-item, operand-wide}
+use Rattle.asm.proofs.Printing.{operand-wide}
+use Rattle.asm.proofs.Walk.{item-operand, item-byte}
 use borrow.Author.Needs.{needs}
 use Rattle.asm.proofs.print.put_item.Statement.{statement}
 use Rattle.asm.proofs.print.put_item.Tie as tie
@@ -10,9 +12,9 @@ put-item-spec =
     tie.close
     (tie.spec
     (λ c κs. search needs)
-    (λ c κs. rw (operand-item _ _ (c .before .before .is-operand .ensures) (c .before .if1 .taken), operand-wide) at (c .before .before .before .before .pre))
-    (λ c κs. omega (arith, rw (byte-item _ _ (c .before .before .is-operand .ensures) (c .before .if1 .left)) at (c .before .before .before .before .pre)))
+    (λ c κs. rw (item-operand _ (sym (c .before .before .is-operand .ensures) ∙ c .before .if1 .taken), operand-wide) at (c .before .before .before .before .pre))
+    (λ c κs. omega (arith, rw (item-byte _ (sym (c .before .before .is-operand .ensures) ∙ c .before .if1 .left)) at (c .before .before .before .before .pre)))
     (λ c. search needs)
-    (λ c. rw (operand-item _ _ (c .before .before .before .before .before .is-operand .ensures) (c .before .before .before .before .if1 .taken)) (c .before .before .put-operand .ensures))
+    (λ c. rw (item-operand _ (sym (c .before .before .before .before .before .is-operand .ensures) ∙ c .before .before .before .before .if1 .taken)) (c .before .before .put-operand .ensures))
     (λ c. search needs)
-    (λ c. rw (byte-item _ _ (c .before .before .before .before .before .is-operand .ensures) (c .before .before .before .before .if1 .left)) (c .before .before .put-byte .ensures)))
+    (λ c. rw (item-byte _ (sym (c .before .before .before .before .before .is-operand .ensures) ∙ c .before .before .before .before .if1 .left)) (c .before .before .put-byte .ensures)))
