@@ -39,7 +39,7 @@ fn size_of(i: Bit, j: Bit) -> u32
     requires { ⌜ IsPart i j ⌝ }
     ensures { λ r. ⌜ r ≡ 2 ^ (j .0 - i .0 + 1) ⌝ }
 {
-    1u32 << (j.0 - i.0 + 1)
+    1u32 << (shift_of(i).0 - shift_of(j).0 + 1)
 }
 
 // Bits i to j of a word, as a number.

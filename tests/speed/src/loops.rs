@@ -67,6 +67,16 @@ pub const DOUBLEWORD: Loop = Loop {
     on_405: false,
 };
 
+/// Masks in order and masks that go round, in turns.
+pub const ROTATES: Loop = Loop {
+    name: "rotates",
+    // rlwinm r3,r3,1,0,31; rlwinm r4,r3,5,28,3; rlwinm r5,r4,2,24,29; rlwinm r6,r5,31,20,10; rlwinm r7,r6,16,16,31; rlwinm r8,r7,24,8,2; rlwinm r9,r8,3,0,28; rlwinm r10,r9,8,24,7; b 0
+    code: &[0x5463083E, 0x54642F06, 0x5485163A, 0x54A6FD14, 0x54C7843E, 0x54E8C204, 0x55091838, 0x552A460E, 0x4BFFFFE0],
+    registers: &[(3, 0x1234_5678)],
+    tcr: 0,
+    on_405: true,
+};
+
 /// The same in a core that has to look for an interrupt in every step; MSR[EE] masks it.
 pub const ENABLED: Loop = Loop { name: "ledger,DIE", tcr: DIE, ..LEDGER };
 

@@ -8,7 +8,7 @@ mod everyday;
 mod loops;
 mod players;
 
-use loops::{Loop, ARITHMETIC, BRANCHES, DOUBLEWORD, ENABLED, LEDGER, MEMORY};
+use loops::{Loop, ARITHMETIC, BRANCHES, DOUBLEWORD, ENABLED, LEDGER, MEMORY, ROTATES};
 use players::{OURS, PLAYERS};
 
 const RUNS: u32 = 20;
@@ -42,7 +42,7 @@ fn main() {
         "Unicorn/second",
     ];
     show(heads.map(String::from));
-    for each in [ARITHMETIC, MEMORY, BRANCHES, LEDGER, ENABLED, DOUBLEWORD] {
+    for each in [ARITHMETIC, MEMORY, BRANCHES, LEDGER, ENABLED, DOUBLEWORD, ROTATES] {
         measure(&each, SIZE, STEPS, runs);
     }
     for size in [1 << 16, 1 << 20] {
