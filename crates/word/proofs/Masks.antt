@@ -21,16 +21,16 @@ pub made-is : (i j : ℕ) → i < 32 → j < 32 → made i j ≡ ones i j
 unfolding mask
 made-is = same-at made ones 32 32 tt
 
--- the mask by whether MB and ME are in order
-abbrev chosen : Bool → ℕ → ℕ → ℕ
-chosen in-order mb me = cond in-order (ones mb me) (bitOr (ones mb 31) (ones 0 me))
+-- straight or round, by whether MB and ME are in order
+abbrev by-order : Bool → ℕ → ℕ → ℕ
+by-order in-order mb me = cond in-order (ones mb me) (bitOr (ones mb 31) (ones 0 me))
 
-chosen-is : (mb me : ℕ) → mb < 32 → me < 32 → chosen (leb mb me) mb me ≡ mask mb me
+by-order-is : (mb me : ℕ) → mb < 32 → me < 32 → by-order (leb mb me) mb me ≡ mask mb me
 unfolding mask
-chosen-is = same-at (λ mb me. chosen (leb mb me) mb me) mask 32 32 tt
+by-order-is = same-at (λ mb me. by-order (leb mb me) mb me) mask 32 32 tt
 
 pub straight-is : (mb me : ℕ) → mb ≤ me → me < 32 → ones mb me ≡ mask mb me
-straight-is mb me h l = ap (λ b. chosen b mb me) (sym (le-leb mb me h)) ∙ chosen-is mb me (omega arith) l
+straight-is mb me h l = ap (λ b. by-order b mb me) (sym (le-leb mb me h)) ∙ by-order-is mb me (omega arith) l
 
 pub round-is : (mb me : ℕ) → me < mb → mb < 32 → bitOr (ones mb 31) (ones 0 me) ≡ mask mb me
-round-is mb me h l = ap (λ b. chosen b mb me) (sym (lt-leb mb me h)) ∙ chosen-is mb me l (omega arith)
+round-is mb me h l = ap (λ b. by-order b mb me) (sym (lt-leb mb me h)) ∙ by-order-is mb me l (omega arith)
