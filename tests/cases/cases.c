@@ -11,6 +11,7 @@
 
 enum { GUARD = 64, FILL = 0xEE, EDGE = 0x5A };
 
+#define ISR_ST 0x00000040u
 #define TCR_DS 0x00400000u
 #define REACHED ((uint64_t)1 << 63)
 #define WRITES ((uint64_t)1 << 63)
@@ -64,6 +65,7 @@ struct test {
     uint64_t access;
     struct pieces given, wanted;
     struct list events, tells;
+    char map[64];
 };
 
 static const char *file;
@@ -366,8 +368,10 @@ static void begin(struct test *test, const char *name) {
 
 static void finish(struct test *test) {
     if (!test->open) return;
-    if (!test->ran || !test->wants) malformed("the case before this line has no run or no want", test->name);
-    if (!test->tried) check(test);
+    if (!test->tried) {
+        if (!test->ran || !test->wants) malformed("the case before this line has no run or no want", test->name);
+        check(test);
+    }
     free(test->events.bytes);
     free(test->tells.bytes);
     test->open = false;
@@ -430,6 +434,99 @@ static void try_once(struct test *test, char *rest) {
     check(&one);
 }
 
+// An access that is played at each address of a map.
+struct each { bool store, update; uint32_t bytes, word; const char *text; };
+
+static void want(struct test *test, int index, uint32_t value) {
+    test->named[index] = true;
+    test->want[index] = value;
+}
+
+static void want_loaded(struct test *test, uint32_t address, uint32_t bytes) {
+    uint8_t *memory = room_for(test->lend);
+    uint64_t value = 0;
+    memset(memory, FILL, test->lend);
+    lay(memory, test->lend, &test->given);
+    for (uint32_t i = 0; i < bytes; i++) value = value << 8 | memory[address + i];
+    want(test, PPE42_R28, (uint32_t)(bytes == 8 ? value >> 32 : value));
+    if (bytes == 8) want(test, PPE42_R29, (uint32_t)value);
+    free(memory);
+}
+
+static void want_stored(struct test *test, uint32_t address, uint32_t bytes) {
+    uint64_t value = test->start[PPE42_R28];
+    if (bytes == 8) value = value << 32 | test->start[PPE42_R29];
+    struct piece *piece = piece_of(&test->wanted, address);
+    for (uint32_t left = bytes; left--;) piece->bytes[piece->count++] = (uint8_t)(value >> 8 * left);
+}
+
+static void want_served(struct test *test, const struct each *each, uint32_t address) {
+    want(test, PPE42_IAR, test->start[PPE42_IAR] + 4);
+    if (each->update) want(test, PPE42_R4, address);
+    if (each->store) want_stored(test, address, each->bytes);
+    else want_loaded(test, address, each->bytes);
+}
+
+// What 4.5.3 and 4.5.6 leave where MSR has UIE alone.
+static void want_interrupt(struct test *test, const struct each *each, uint32_t address, uint32_t vector) {
+    want(test, PPE42_SRR0, test->start[PPE42_IAR]);
+    want(test, PPE42_SRR1, test->start[PPE42_MSR]);
+    want(test, PPE42_MSR, 0);
+    want(test, PPE42_EDR, address);
+    want(test, PPE42_ISR, each->store ? ISR_ST : 0);
+    want(test, PPE42_IAR, vector);
+}
+
+static void play_at(const struct test *test, const struct each *each, uint32_t address) {
+    struct test one = *test;
+    uint8_t told;
+    one.line = line;
+    snprintf(one.name, sizeof one.name, "%s at %" PRIu32, each->text, address);
+    one.start[PPE42_R4] = address - 8;
+    one.start[PPE42_R5] = 8;
+    add_word(&one.given, one.start[PPE42_IAR], each->word);
+    switch (test->map[address]) {
+    case '.':
+        told = PPE42_EXECUTES;
+        want_served(&one, each, address);
+        break;
+    case 'a':
+        told = PPE42_FAULTS_ALIGNMENT;
+        want_interrupt(&one, each, address, 0x0C0);
+        break;
+    default:
+        told = PPE42_FAULTS_DATA_STORAGE;
+        want_interrupt(&one, each, address, 0x060);
+        one.reach = 1;
+    }
+    one.tells = (struct list){.bytes = &told, .count = 1};
+    one.access_named = true;
+    one.access = (each->store ? WRITES : 0) | (uint64_t)each->bytes << 32 | address;
+    check(&one);
+}
+
+// Plays a load or store at each address of the map.
+static void play_each(struct test *test, char *kind) {
+    char *bytes = split(kind), *word = split(bytes), *text = split(word), *update = strstr(kind, "-update");
+    if (!test->ran || !*test->map) malformed("each comes after run and map", text);
+    if (update) *update = 0;
+    struct each each = {.store = !strcmp(kind, "store"), .update = update, .bytes = number(bytes, 10), .word = number(word, 16), .text = text};
+    if (!each.store && strcmp(kind, "load")) malformed("neither load nor store", kind);
+    test->tried = true;
+    for (uint32_t address = 0; test->map[address]; address++) play_at(test, &each, address);
+}
+
+// A letter for each address from 0 on; blanks set the groups apart.
+static void read_map(struct test *test, const char *rest) {
+    size_t count = 0;
+    for (; *rest; rest++) {
+        if (strchr(" \t", *rest)) continue;
+        if (!strchr(".ad", *rest) || count == sizeof test->map - 1) malformed("a map has up to 63 of the letters . a d", rest);
+        test->map[count++] = *rest;
+    }
+    test->map[count] = 0;
+}
+
 static void read_part(struct test *test, const char *key, char *rest) {
     if (!strcmp(key, "lend")) {
         test->lend = number(rest, 10);
@@ -450,6 +547,8 @@ static void read_part(struct test *test, const char *key, char *rest) {
         read_list(&test->tells, rest, told_named);
     } else if (!strcmp(key, "access")) {
         read_access(test, rest);
+    } else if (!strcmp(key, "map")) {
+        read_map(test, rest);
     } else if (!strcmp(key, "run")) {
         test->budget = number(rest, 10);
         test->ran = true;
@@ -475,8 +574,10 @@ static void read_line(struct test *test, char *text) {
         malformed("no case yet", text);
     } else if (!strcmp(text, "try")) {
         try_once(test, rest);
+    } else if (!strcmp(text, "each")) {
+        play_each(test, rest);
     } else if (test->tried) {
-        malformed("only a try or a case may follow a try", text);
+        malformed("only a try, an each or a case may follow one", text);
     } else {
         read_part(test, text, rest);
     }

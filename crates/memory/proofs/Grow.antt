@@ -1,21 +1,21 @@
 -- More memory does not change what was served, and a store leaves the extra bytes alone: one law for each door. Assumes nothing.
-use Prim.Native.Nat.{ℕ, suc, _+_, _%_, _≤_}
+use Prim.Native.Nat.{ℕ, suc, _+_, _≤_}
 use native.Mathlib.Omega.{arith}
 use mathlib.Core.Bool.{Bool, true, false}
 use mathlib.Core.Path.{_≡_, refl, ap}
 use mathlib.Core.List.{List, [], _∷_, _++_}
 use lib.ListN.{length, set, replicate, length-append, List·getD-append, length-set}
 use lib.Seq.{set-append-left, sets, length-sets}
-use lib.Dec.{leb, eqb}
+use lib.Dec.{leb}
 use borrow.Author.Tests.{le-leb, leb-true}
 use Rattle.word.specs.declared.width.Width.{Width}
 use Rattle.memory.specs.declared.access.Access.{Access}
 use Rattle.word.specs.Width.{bytes}
-use Rattle.memory.specs.Access.{pick, accessOf, reachesPast}
+use Rattle.memory.specs.Access.{pick, alignedOf, placedOf, accessOf, fetchAccessOf, reachesPast}
 use Rattle.memory.specs.Load.{valueAt, doubleAt, loaded, loadOf, loadedDouble, loadDoubleOf, fetchOf}
 use Rattle.memory.specs.Store.{bytesOf, doubleBytes, written, storedOf, storedDoubleOf, blockAt, clearedOf}
 use Rattle.word.proofs.Truth.{never}
-use Rattle.memory.proofs.Laws.{served-inside}
+use Rattle.memory.proofs.Laws.{served-inside, fetched-inside}
 
 leb-grow : (k : ℕ) (m x : List ℕ) → leb k (length m) ≡ true → leb k (length (m ++ x)) ≡ true
 leb-grow k m x t = le-leb k (length (m ++ x)) (omega (arith, leb-true k (length m) t, length-append m x))
@@ -30,7 +30,16 @@ access-cases m x k false q e h = refl
 -- what did not reach past the memory is judged as before
 pub access-grow : (m x : List ℕ) (a n : ℕ) → reachesPast (accessOf (length m) a n) ≡ false → accessOf (length (m ++ x)) a n ≡ accessOf (length m) a n
 unfolding accessOf
-access-grow m x a n h = access-cases m x (a + n) (eqb (a % n) 0) (leb (a + n) (length m)) refl h
+access-grow m x a n h = access-cases m x (a + n) (placedOf a n) (leb (a + n) (length m)) refl h
+
+fetch-cases : (m x : List ℕ) (a : ℕ) (p : Bool) → reachesPast (pick p (accessOf (length m) a 4) Access.Unaligned) ≡ false
+    → pick p (accessOf (length (m ++ x)) a 4) Access.Unaligned ≡ pick p (accessOf (length m) a 4) Access.Unaligned
+fetch-cases m x a true h = access-grow m x a 4 h
+fetch-cases m x a false h = refl
+
+fetch-access-grow : (m x : List ℕ) (a : ℕ) → reachesPast (fetchAccessOf (length m) a) ≡ false → fetchAccessOf (length (m ++ x)) a ≡ fetchAccessOf (length m) a
+unfolding fetchAccessOf
+fetch-access-grow m x a h = fetch-cases m x a (alignedOf a 4) h
 
 value-grow : (w : Width) (m x : List ℕ) (a : ℕ) → a + bytes w ≤ length m → valueAt w (m ++ x) a ≡ valueAt w m a
 unfolding valueAt
@@ -39,14 +48,18 @@ value-grow Width.Half m x a h = rw (List·getD-append m x 0 a (omega arith), Lis
 value-grow Width.Word m x a h =
     rw (List·getD-append m x 0 a (omega arith), List·getD-append m x 0 (a + 1) (omega arith), List·getD-append m x 0 (a + 2) (omega arith), List·getD-append m x 0 (a + 3) (omega arith))
 
-loaded-grow : (w : Width) (m x : List ℕ) (a : ℕ) (k : Access) → accessOf (length m) a (bytes w) ≡ k → loaded k (valueAt w (m ++ x) a) ≡ loaded k (valueAt w m a)
-loaded-grow w m x a Access.Served e = rw (value-grow w m x a (served-inside (length m) a (bytes w) e))
+loaded-grow : (w : Width) (m x : List ℕ) (a : ℕ) (k : Access) → (k ≡ Access.Served → a + bytes w ≤ length m) → loaded k (valueAt w (m ++ x) a) ≡ loaded k (valueAt w m a)
+loaded-grow w m x a Access.Served e = rw (value-grow w m x a (e refl))
 loaded-grow w m x a Access.Unaligned e = refl
 loaded-grow w m x a Access.Outside e = refl
 
 pub load-grow : (m x : List ℕ) (a : ℕ) (w : Width) → reachesPast (accessOf (length m) a (bytes w)) ≡ false → loadOf (m ++ x) a w ≡ loadOf m a w
 unfolding loadOf
-load-grow m x a w h = rw (access-grow m x a (bytes w) h) (loaded-grow w m x a (accessOf (length m) a (bytes w)) refl)
+load-grow m x a w h = rw (access-grow m x a (bytes w) h) (loaded-grow w m x a (accessOf (length m) a (bytes w)) (served-inside (length m) a (bytes w)))
+
+pub fetch-grow : (m x : List ℕ) (a : ℕ) → reachesPast (fetchAccessOf (length m) a) ≡ false → fetchOf (m ++ x) a ≡ fetchOf m a
+unfolding fetchOf
+fetch-grow m x a h = rw (fetch-access-grow m x a h) (loaded-grow Width.Word m x a (fetchAccessOf (length m) a) (fetched-inside (length m) a))
 
 double-grow : (m x : List ℕ) (a : ℕ) → a + 8 ≤ length m → doubleAt (m ++ x) a ≡ doubleAt m a
 unfolding doubleAt
@@ -60,10 +73,6 @@ loaded-double-grow m x a Access.Outside e = refl
 pub load-double-grow : (m x : List ℕ) (a : ℕ) → reachesPast (accessOf (length m) a 8) ≡ false → loadDoubleOf (m ++ x) a ≡ loadDoubleOf m a
 unfolding loadDoubleOf
 load-double-grow m x a h = rw (access-grow m x a 8 h) (loaded-double-grow m x a (accessOf (length m) a 8) refl)
-
-pub fetch-grow : (m x : List ℕ) (a : ℕ) → reachesPast (accessOf (length m) a 4) ≡ false → fetchOf (m ++ x) a ≡ fetchOf m a
-unfolding fetchOf
-fetch-grow m x a h = load-grow m x a Width.Word h
 
 -- a run of bytes within the memory, of any length
 sets-grow : (vs m x : List ℕ) (a : ℕ) → a + length vs ≤ length m → sets (m ++ x) a vs ≡ sets m a vs ++ x

@@ -3,7 +3,7 @@ use Prim.Native.Nat.{ℕ, _+_, _*_, _^_}
 use mathlib.Core.List.{List}
 use lib.ListN.{getD, length}
 use Rattle.word.specs.Width.{bytes}
-use Rattle.memory.specs.Access.{accessOf}
+use Rattle.memory.specs.Access.{accessOf, fetchAccessOf}
 use Rattle.word.specs.declared.width.Width.{Width}
 use Rattle.memory.specs.declared.access.Access.{Access}
 use Rattle.memory.specs.declared.load.Loaded.{Loaded}
@@ -37,4 +37,4 @@ loadDoubleOf m a = loadedDouble (accessOf (length m) a 8) (doubleAt m a)
 
 -- the word at the instruction address
 unfoldable pub fetchOf : List ℕ → ℕ → Loaded
-fetchOf m iar = loadOf m iar Width.Word
+fetchOf m iar = loaded (fetchAccessOf (length m) iar) (valueAt Width.Word m iar)

@@ -1,9 +1,8 @@
 // What becomes of an access: the board's rule.
 ghost use mathlib.Core.Path.{_≡_};
-ghost use Prim.Native.Nat.{_%_};
-ghost use lib.Dec.{eqb, leb};
+ghost use lib.Dec.{leb};
 ghost use Rattle.word.specs.Width.{bytes};
-ghost use Rattle.memory.specs.Access.{pick, accessOf, reachesPast, sizedOf};
+ghost use Rattle.memory.specs.Access.{pick, alignedOf, placedOf, accessOf, reachesPast, sizedOf};
 ghost use Rattle.memory.specs.Store.{blockAt};
 ghost use Rattle.memory.specs.declared.access.Access.{Access};
 use word::width::Width;
@@ -16,11 +15,29 @@ pub enum Access {
     Outside,
 }
 
-// By whether it is aligned, and by where it ends in `len` bytes of lent memory.
-fn judged(aligned: bool, past: usize, len: usize) -> Access
-    ensures { λ r. ⌜ r ≡ pick aligned (pick (leb past len) Access.Served Access.Outside) Access.Unaligned ⌝ }
+// By width, so that no division is left to run.
+fn aligned(address: u32, width: Width) -> bool
+    ensures { λ r. ⌜ r ≡ alignedOf address (bytes width) ⌝ }
 {
-    if aligned {
+    match width {
+        Width::Byte => true,
+        Width::Half => address % 2 == 0,
+        Width::Word => address % 4 == 0,
+    }
+}
+
+// Aligned, or unaligned but wholly inside one aligned group of eight bytes.
+fn placed(address: u32, width: Width) -> bool
+    ensures { λ r. ⌜ r ≡ placedOf address (bytes width) ⌝ }
+{
+    aligned(address, width) | (address as usize % 8 + size(width) <= 8)
+}
+
+// By whether it is so placed, then by where it ends in `len` bytes of lent memory.
+fn judged(placed: bool, past: usize, len: usize) -> Access
+    ensures { λ r. ⌜ r ≡ pick placed (pick (leb past len) Access.Served Access.Outside) Access.Unaligned ⌝ }
+{
+    if placed {
         if past <= len {
             Access::Served
         } else {
@@ -31,22 +48,11 @@ fn judged(aligned: bool, past: usize, len: usize) -> Access
     }
 }
 
-// By width, so that no division is left to run.
-fn aligned(address: u32, width: Width) -> bool
-    ensures { λ r. ⌜ r ≡ eqb (address % bytes width) 0 ⌝ }
-{
-    match width {
-        Width::Byte => true,
-        Width::Half => address % 2 == 0,
-        Width::Word => address % 4 == 0,
-    }
-}
-
 // An access of a width at an address, in `len` bytes of lent memory.
 pub fn access_at(len: usize, address: u32, width: Width) -> Access
     ensures { λ r. ⌜ r ≡ accessOf len address (bytes width) ⌝ }
 {
-    judged(aligned(address, width), address as usize + size(width), len)
+    judged(placed(address, width), address as usize + size(width), len)
 }
 
 // An access of a doubleword.

@@ -98,5 +98,9 @@ pub fn load_double(mem: &[u8], address: u32) -> LoadedDouble
 pub fn fetch(mem: &[u8], iar: u32) -> Loaded
     ensures { λ r. ⌜ r ≡ fetchOf (now (mem .entry)) iar ⌝ }
 {
-    load(mem, iar, Width::Word)
+    if iar % 4 == 0 {
+        load(mem, iar, Width::Word)
+    } else {
+        Loaded::Unaligned
+    }
 }

@@ -10,8 +10,8 @@ use borrow.Author.Tests.{eqb-false}
 use Rattle.word.specs.Bits.{bitAt}
 use Rattle.word.specs.Width.{bytes}
 use Rattle.word.specs.declared.width.Width.{Width}
-use Rattle.memory.specs.Access.{pick, accessOf, reachesPast}
-use Rattle.memory.specs.Load.{loaded, loadOf, fetchOf, valueAt}
+use Rattle.memory.specs.Access.{pick, fetchAccessOf, reachesPast}
+use Rattle.memory.specs.Load.{loaded, fetchOf, valueAt}
 use Rattle.memory.specs.Store.{blockAt}
 use Rattle.memory.specs.declared.access.Access.{Access}
 use Rattle.memory.specs.declared.load.Loaded.{Loaded}
@@ -103,9 +103,9 @@ module _ (s : State) (m x : List ℕ) where
   fetch-past Access.Outside v h = h
 
   running-grow : runningOf s m .past ≡ false → runningOf s (m ++ x) ≡ grown x (runningOf s m)
-  unfolding runningOf fetchOf loadOf
+  unfolding runningOf fetchOf
   running-grow h =
-      rw (fetch-grow m x (s .iar) (fetch-past (accessOf (length m) (s .iar) 4) (valueAt Width.Word m (s .iar)) h))
+      rw (fetch-grow m x (s .iar) (fetch-past (fetchAccessOf (length m) (s .iar)) (valueAt Width.Word m (s .iar)) h))
       (fetched-grow (fetchOf m (s .iar)) h)
 
   awake-cases : (b : Bool) → pick b (plain s m) (runningOf s m) .past ≡ false

@@ -12,13 +12,13 @@ use lib.Seq.{sets, sets-eq, getD-set-other, getD-append-add, length-take-le}
 use Rattle.word.specs.Bits.{bitAt}
 use Rattle.word.specs.Width.{bytes}
 use Rattle.word.specs.declared.width.Width.{Width}
-use Rattle.memory.specs.Access.{pick, accessOf}
+use Rattle.memory.specs.Access.{pick, accessOf, fetchAccessOf}
 use Rattle.memory.specs.Load.{valueAt, doubleAt, loaded, loadOf, loadedDouble, loadDoubleOf, fetchOf}
 use Rattle.memory.specs.Store.{bytesOf, doubleBytes, written, storedOf, storedDoubleOf, blockAt, clearedOf}
 use Rattle.memory.specs.declared.access.Access.{Access}
 use Rattle.memory.specs.declared.load.Loaded.{Loaded}
 use Rattle.word.proofs.Truth.{never}
-use Rattle.memory.proofs.Laws.{served-inside}
+use Rattle.memory.proofs.Laws.{served-inside, fetched-inside}
 use Rattle.memory.proofs.Grow.{bytes-length, double-length}
 use Rattle.insn.specs.Read.{decodeOf}
 use Rattle.insn.specs.declared.instr.Instr.{Instr}
@@ -36,17 +36,20 @@ use Rattle.machine.specs.declared.state.State.{State}
 use Rattle.machine.specs.declared.step.Pending.{Pending}
 use Rattle.tell.specs.Uses.{loadStoreUse, cacheUse, executeUse, decodedUse, fetchedUse, free, executes}
 use Rattle.tell.specs.declared.uses.Use.{Use}
-use Rattle.promises.specs.Reach.{Span, touched, touchedAt, readBy, writtenBy, runningReads, runningWrites, readsOf, writesOf, Inside, Misses, Agree, Alike}
+use Rattle.promises.specs.Reach.{Span, touched, touchedAt, fetchedAt, readBy, writtenBy, runningReads, runningWrites, readsOf, writesOf, Inside, Misses, Agree, Alike}
 
 -- ---- inside
 
-touched-inside : (m a n : ℕ) (k : Access) → accessOf m a n ≡ k → Inside m (touched k a n)
-touched-inside m a n Access.Served e = (served-inside m a n e, tt)
+touched-inside : (m a n : ℕ) (k : Access) → (k ≡ Access.Served → a + n ≤ m) → Inside m (touched k a n)
+touched-inside m a n Access.Served e = (e refl, tt)
 touched-inside m a n Access.Unaligned e = tt
 touched-inside m a n Access.Outside e = tt
 
 at-inside : (m : List ℕ) (a n : ℕ) → Inside (length m) (touchedAt m a n)
-at-inside m a n = touched-inside (length m) a n (accessOf (length m) a n) refl
+at-inside m a n = touched-inside (length m) a n (accessOf (length m) a n) (served-inside (length m) a n)
+
+fetch-inside : (m : List ℕ) (a : ℕ) → Inside (length m) (fetchedAt m a)
+fetch-inside m a = touched-inside (length m) a 4 (fetchAccessOf (length m) a) (fetched-inside (length m) a)
 
 both-inside : (n : ℕ) (xs ys : List Span) → Inside n xs → Inside n ys → Inside n (xs ++ ys)
 both-inside n [] ys p q = q
@@ -68,7 +71,7 @@ reads-inside s m e =
     let t = tickedOf s e in
     let u = fetchedUse t (fetchOf m (t .iar)) in
     picked-inside (length m) (executes s e) _
-    (both-inside (length m) (touchedAt m (t .iar) 4) (readBy m u) (at-inside m (t .iar) 4) (use-inside m u .0))
+    (both-inside (length m) (fetchedAt m (t .iar)) (readBy m u) (fetch-inside m (t .iar)) (use-inside m u .0))
 
 pub writes-inside : (s : State) (m : List ℕ) (e : ℕ) → Inside (length m) (writesOf s m e)
 unfolding writesOf runningWrites
@@ -251,6 +254,10 @@ module _ (m n : List ℕ) (l : length n ≡ length m) where
   unfolding loadOf
   load-same a w h = rw l (loaded-same w m n a (accessOf (length m) a (bytes w)) h)
 
+  fetch-same : (a : ℕ) → Agree m n (fetchedAt m a) → fetchOf n a ≡ fetchOf m a
+  unfolding fetchOf
+  fetch-same a h = rw l (loaded-same Width.Word m n a (fetchAccessOf (length m) a) h)
+
   load-double-same : (a : ℕ) → Agree m n (touchedAt m a 8) → loadDoubleOf n a ≡ loadDoubleOf m a
   unfolding loadDoubleOf
   load-double-same a h = rw l (loaded-double-same m n a (accessOf (length m) a 8) h)
@@ -328,10 +335,10 @@ module _ (m n : List ℕ) (l : length n ≡ length m) where
     fetched-same Loaded.Outside h = record { st = refl; past = refl; places = refl; written = tt }
 
     running-same : Agree m n (runningReads s m) → Alike (runningWrites s m) (runningWrites s n) (runningOf s m) (runningOf s n)
-    unfolding runningReads runningWrites runningOf fetchOf
+    unfolding runningReads runningWrites runningOf
     running-same h =
-        let both = agree-split m n (touchedAt m (s .iar) 4) (readBy m (fetchedUse s (fetchOf m (s .iar)))) h in
-        rw (load-same (s .iar) Width.Word (both .0)) (fetched-same (fetchOf m (s .iar)) (both .1))
+        let both = agree-split m n (fetchedAt m (s .iar)) (readBy m (fetchedUse s (fetchOf m (s .iar)))) h in
+        rw (fetch-same (s .iar) (both .0)) (fetched-same (fetchOf m (s .iar)) (both .1))
 
 same-cases : (m n : List ℕ) → length n ≡ length m → (s : State) (e : ℕ) (b : Bool) → executes s e ≡ b
     → Agree m n (pick b (runningReads (tickedOf s e) m) [])

@@ -4,7 +4,7 @@ use mathlib.Core.List.{List, [], _∷_, _++_}
 use mathlib.Core.Path.{_≡_}
 use mathlib.Core.Logic.{_⊎_}
 use lib.ListN.{length, getD}
-use Rattle.memory.specs.Access.{pick, accessOf}
+use Rattle.memory.specs.Access.{pick, accessOf, fetchAccessOf}
 use Rattle.memory.specs.Load.{fetchOf}
 use Rattle.memory.specs.declared.access.Access.{Access}
 use Rattle.machine.specs.After.{After}
@@ -27,6 +27,9 @@ touched Access.Outside a n = []
 abbrev pub touchedAt : List ℕ → ℕ → ℕ → List Span
 touchedAt m a n = touched (accessOf (length m) a n) a n
 
+abbrev pub fetchedAt : List ℕ → ℕ → List Span
+fetchedAt m a = touched (fetchAccessOf (length m) a) a 4
+
 abbrev pub readBy : List ℕ → Use → List Span
 readBy m Use.Idle = []
 readBy m (Use.Reads a n) = touchedAt m a n
@@ -39,7 +42,7 @@ writtenBy m (Use.Writes a n) = touchedAt m a n
 
 -- line 6: the fetch, then what the instruction reads
 unfoldable pub runningReads : State → List ℕ → List Span
-runningReads s m = touchedAt m (s .iar) 4 ++ readBy m (fetchedUse s (fetchOf m (s .iar)))
+runningReads s m = fetchedAt m (s .iar) ++ readBy m (fetchedUse s (fetchOf m (s .iar)))
 
 unfoldable pub runningWrites : State → List ℕ → List Span
 runningWrites s m = writtenBy m (fetchedUse s (fetchOf m (s .iar)))

@@ -26,6 +26,9 @@ pub struct Tally {
     /// Steps asked beforehand by what was told, and those of them that access data.
     told: [u64; TOLD],
     accesses: u64,
+    /// Halfwords and words among these that are not aligned, served and outside.
+    unaligned_served: u64,
+    unaligned_outside: u64,
     asked_refused: [u64; REFUSALS],
     /// Steps without an event in which TCR enables nothing and DEC counts.
     quiet: u64,
@@ -59,6 +62,8 @@ impl Default for Tally {
             inside_reached: 0,
             told: [0; TOLD],
             accesses: 0,
+            unaligned_served: 0,
+            unaligned_outside: 0,
             asked_refused: [0; REFUSALS],
             quiet: 0,
             doublewords_faulted: 0,
@@ -130,6 +135,8 @@ impl Tally {
         if told >> 32 == 0 {
             self.told[told as usize] += 1;
             self.accesses += (access != 0) as u64;
+            self.unaligned_served += (told == 1 && unaligned(access)) as u64;
+            self.unaligned_outside += (told == 8 && unaligned(access)) as u64;
         }
     }
 
@@ -144,6 +151,12 @@ impl Tally {
     pub fn answer_write(&mut self, answer: u64) {
         self.captures_written[(answer >> 32) as usize] += 1;
     }
+}
+
+/// Whether what is told of an access is a halfword or word that is not aligned.
+fn unaligned(access: u64) -> bool {
+    let (bytes, address) = ((access >> 32) as u32 & 63, access as u32);
+    matches!(bytes, 2 | 4) && !address.is_multiple_of(bytes)
 }
 
 fn is_doubleword(word: Option<Word>) -> bool {
@@ -186,6 +199,8 @@ impl fmt::Display for Tally {
         writeln!(f, "{} runs again up to their first reach, which ended {}", self.inside, self.inside_reached)?;
         let asked: u64 = self.told.iter().sum();
         writeln!(f, "{asked} steps asked beforehand what they do, {} of them access data", self.accesses)?;
+        let (served, outside) = (self.unaligned_served, self.unaligned_outside);
+        writeln!(f, "{served} unaligned accesses served, {outside} outside, all inside their groups of eight bytes")?;
         writeln!(f, "{} steps without an event or anything that TCR asks for", self.quiet)?;
         let served: u64 = DOUBLEWORDS.iter().map(|kind| self.executed[kind.mnemonic()]).sum();
         let doublewords = served + self.doublewords_faulted;

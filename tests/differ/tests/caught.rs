@@ -64,19 +64,26 @@ const FLAWS: [(&str, Flaw); 9] = [
     }),
 ];
 
-/// A step that tries a doubleword: core and memory before it, its word and its address.
+/// A step that tries a load or store: core and memory before it, its word, its address and how many bytes.
 struct Tried {
     core: Core,
     memory: Vec<u8>,
     word: Word,
     at: usize,
+    bytes: usize,
 }
 
 impl Tried {
     fn of(core: &Core, memory: &[u8], event: u8) -> Option<Tried> {
-        let access = core.access(memory, event).filter(|access| access.bytes == 8)?;
+        let access = core.access(memory, event).filter(|access| access.bytes <= 8)?;
         let word = Word(u32::from_be_bytes(*memory[core.iar as usize..].first_chunk()?));
-        Some(Tried { core: core.clone(), memory: memory.to_vec(), word, at: access.address as usize })
+        let (at, bytes) = (access.address as usize, access.bytes as usize);
+        Some(Tried { core: core.clone(), memory: memory.to_vec(), word, at, bytes })
+    }
+
+    /// Where it would be if its address were taken down to a multiple of its size.
+    fn aligned(&self) -> usize {
+        self.at - self.at % self.bytes
     }
 
     fn pair(&self) -> [usize; 2] {
@@ -85,9 +92,32 @@ impl Tried {
 }
 
 /// Changes core and memory after such a step, given what it came to.
-type PairFlaw = fn(&Tried, Outcome, &mut Core, &mut [u8]);
+type AccessFlaw = fn(&Tried, Outcome, &mut Core, &mut [u8]);
 
-const PAIR_FLAWS: [(&str, PairFlaw); 7] = [
+const UNALIGNED_FLAWS: [(&str, AccessFlaw); 3] = [
+    ("an unaligned word is loaded from the aligned address below", |tried, outcome, after, _| {
+        if outcome == Outcome::Executed(Kind::Lwz) {
+            let bytes = tried.memory[tried.aligned()..].first_chunk().expect("memory is whole blocks");
+            after.gpr[tried.word.rt()] = u32::from_be_bytes(*bytes);
+        }
+    }),
+    ("an unaligned halfword is stored at the aligned address below", |tried, outcome, _, memory| {
+        if outcome == Outcome::Executed(Kind::Sth) {
+            let stored = memory[tried.at..][..2].to_vec();
+            memory.copy_from_slice(&tried.memory);
+            memory[tried.aligned()..][..2].copy_from_slice(&stored);
+        }
+    }),
+    ("the part of a word up to the end of its group is stored", |tried, outcome, _, memory| {
+        if tried.bytes == 4 && matches!(outcome, Outcome::Faulted(Fault::Alignment { store: true, .. }, _)) {
+            let stored = tried.core.gpr[tried.word.rt()].to_be_bytes();
+            let part = 8 - tried.at % 8;
+            memory.iter_mut().skip(tried.at).zip(&stored[..part]).for_each(|(byte, stored)| *byte = *stored);
+        }
+    }),
+];
+
+const PAIR_FLAWS: [(&str, AccessFlaw); 7] = [
     ("31 is loaded without 0", |tried, outcome, after, _| {
         if matches!(outcome, Outcome::Executed(Kind::Lvd | Kind::Lvdu)) && tried.word.rt() == 31 {
             after.gpr[0] = tried.core.gpr[0];
@@ -110,7 +140,7 @@ const PAIR_FLAWS: [(&str, PairFlaw); 7] = [
         }
     }),
     ("half is stored before a fault", |tried, outcome, _, memory| {
-        if matches!(outcome, Outcome::Faulted(Fault::Alignment { store: true, .. }, _)) {
+        if tried.bytes == 8 && matches!(outcome, Outcome::Faulted(Fault::Alignment { store: true, .. }, _)) {
             let half = tried.core.gpr[tried.word.rt()].to_be_bytes();
             memory.iter_mut().skip(tried.at).zip(half).for_each(|(byte, stored)| *byte = stored);
         }
@@ -155,7 +185,7 @@ const WRONGLY: [(&str, Tell); 7] = [
 
 thread_local! {
     static FLAW: Cell<Flaw> = const { Cell::new(|_, _, _| ()) };
-    static PAIR_FLAW: Cell<PairFlaw> = const { Cell::new(|_, _, _, _| ()) };
+    static ACCESS_FLAW: Cell<AccessFlaw> = const { Cell::new(|_, _, _, _| ()) };
     static TELL: Cell<Tell> = const { Cell::new(RIGHTLY) };
 }
 
@@ -172,7 +202,7 @@ fn flawed(to_the_end: bool, state: &mut [u8], memory: &mut [u8], events: &[u8], 
         let outcome = core.step(memory, event);
         FLAW.get()(&before, outcome, &mut core);
         if let Some(tried) = tried {
-            PAIR_FLAW.get()(&tried, outcome, &mut core, memory);
+            ACCESS_FLAW.get()(&tried, outcome, &mut core, memory);
         }
         let outside = [before.iar, core.iar].map(|iar| iar as usize >= memory.len());
         reached = TELL.get()(reached, outcome, outside);
@@ -210,9 +240,9 @@ fn flaws_of_a_step() {
 }
 
 #[test]
-fn flaws_of_a_doubleword() {
-    for (name, flaw) in PAIR_FLAWS {
-        PAIR_FLAW.set(flaw);
+fn flaws_of_an_access() {
+    for (name, flaw) in UNALIGNED_FLAWS.into_iter().chain(PAIR_FLAWS) {
+        ACCESS_FLAW.set(flaw);
         assert_caught(name);
     }
 }

@@ -1,13 +1,16 @@
-//! Lent memory: big-endian, aligned, and nothing outside it (the scope, "The board").
+//! Lent memory: big-endian, in groups of eight bytes, and nothing outside it (the scope, "The board").
 
 use crate::interrupts::Fault;
 
 /// Bytes that dcbz clears, from a multiple of as many on.
 pub const BLOCK: u32 = 32;
 
-/// Where an access of SIZE bytes falls. Memory is whole blocks, so an aligned start inside is an end inside.
+/// Bytes of an aligned group, which no load or store crosses (D27). A doubleword fills one, so it has to be aligned.
+const GROUP: u32 = 8;
+
+/// Where an access of SIZE bytes falls. Memory is whole groups, so a start inside is an end inside.
 fn place<const SIZE: u32>(memory: &[u8], address: u32, store: bool) -> Result<usize, Fault> {
-    if !address.is_multiple_of(SIZE) {
+    if address % GROUP + SIZE > GROUP {
         Err(Fault::Alignment { address, store })
     } else if address as usize >= memory.len() {
         Err(Fault::DataStorage { address, store })

@@ -21,7 +21,8 @@ pub enum Outcome {
 }
 
 impl Outcome {
-    /// The step reached past its memory: a fetch, a dcbz block or an aligned access outside raises one of these two.
+    /// The step reached past its memory: a fetch, a dcbz block or an access outside raises one of these two,
+    /// unless the access crosses a group.
     pub fn reached(self) -> bool {
         matches!(self, Outcome::Faulted(Fault::InstructionStorage | Fault::DataStorage { .. }, _))
     }

@@ -112,12 +112,12 @@ fn plain_faults() {
 /// Table 1.14 with UIE 0 and ME 1, and 4.3.4 with both 0.
 #[test]
 fn promoted_and_halting_faults() {
-    let (outside, unaligned) = (d_form(32, 3, 0, 0x200), d_form(36, 3, 0, 2));
+    let (outside, crossing) = (d_form(32, 3, 0, 0x200), d_form(36, 3, 0, 6));
     let (pair_outside, pair_unaligned) = (d_form(STVDU, 3, 4, 0x200), d_form(LVDU, 5, 4, 4));
     let cases = [
         (TRAP, 4, 0x0E0, TRAP, isr::PTR | isr::ST),
         (ILLEGAL, 4, 0x0E0, ILLEGAL, isr::ST),
-        (unaligned, 6, 0x0C0, 2, isr::PTR | isr::ST),
+        (crossing, 6, 0x0C0, 6, isr::PTR | isr::ST),
         (outside, 7, 0x060, 0x200, isr::PTR),
         (pair_unaligned, 6, 0x0C0, 4, isr::PTR),
         (pair_outside, 7, 0x060, 0x200, isr::PTR | isr::ST),

@@ -63,11 +63,13 @@ fn loads_and_stores() {
         let displaced = displaced.map(|opcode| d_form(opcode, 5, 4, 0));
         let indexed = indexed.iter().map(|extended| x_form(5, 0, 4, *extended, 0));
         for word in displaced.into_iter().chain(indexed) {
-            assert!(!reaches_at(M - size, word), "{word:08X} at the end");
-            assert!(reaches_at(M, word), "{word:08X} past it");
-            assert!(reaches_at(size.wrapping_neg(), word), "{word:08X} at the last address");
-            for unaligned in (1..size).flat_map(|off| [M - off, M + off, off.wrapping_neg()]) {
-                assert!(!reaches_at(unaligned, word), "{word:08X} at {unaligned:X}");
+            for back in size..=8 {
+                assert!(!reaches_at(M - back, word), "{word:08X} {back} before the end");
+                assert!(reaches_at(M + 8 - back, word), "{word:08X} {back} before the end of the group past it");
+                assert!(reaches_at(back.wrapping_neg(), word), "{word:08X} {back} before 2^32");
+            }
+            for crossing in (1..size).flat_map(|back| [M - back, M + 8 - back, back.wrapping_neg()]) {
+                assert!(!reaches_at(crossing, word), "{word:08X} at {crossing:X}");
             }
         }
     }
@@ -129,12 +131,13 @@ fn steps_that_do_not_fetch() {
 
 #[test]
 fn however_the_interrupt_is_taken() {
-    let (outside, unaligned) = (d_form(32, 3, 0, M), d_form(32, 3, 0, M + 2));
+    let [outside, unaligned, crossing] = [M, M + 2, M + 6].map(|at| d_form(32, 3, 0, at));
     for bits in [msr::UIE | msr::ME, msr::UIE, msr::ME, 0] {
         let mut start = zeroed();
         start.msr = bits;
         assert!(reaches(&start, &[outside], 1));
-        assert!(!reaches(&start, &[unaligned], 1));
+        assert!(reaches(&start, &[unaligned], 1));
+        assert!(!reaches(&start, &[crossing], 1));
         start.iar = M;
         assert!(reaches(&start, &[], 1));
     }

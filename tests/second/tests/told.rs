@@ -57,7 +57,7 @@ fn each_value() {
         (with(tcr::WIE, tsr::WIS), STORE, 0, WATCHDOG),
         (core(), d_form(36, 3, 0, M), 0, DATA_STORAGE),
         (outside, STORE, 0, INSTRUCTION_STORAGE),
-        (core(), d_form(36, 3, 0, 0x101), 0, ALIGNMENT),
+        (core(), d_form(36, 3, 0, 0x105), 0, ALIGNMENT),
         (core(), ILLEGAL, 0, ILLEGAL_WORD),
         (core(), TRAP, 0, TRAPPED),
     ];
@@ -87,7 +87,8 @@ fn however_a_fault_is_taken() {
     for bits in [msr::UIE | msr::ME, msr::UIE, msr::ME, 0] {
         let start = Core { msr: bits, ..zeroed() };
         assert_eq!(asked(&start, d_form(40, 3, 0, M), 0), (DATA_STORAGE, 2 << 32 | M as u64));
-        assert_eq!(asked(&start, d_form(40, 3, 0, M + 1), 0), (ALIGNMENT, (2 << 32) | (M as u64 + 1)));
+        assert_eq!(asked(&start, d_form(40, 3, 0, M + 1), 0), (DATA_STORAGE, (2 << 32) | (M as u64 + 1)));
+        assert_eq!(asked(&start, d_form(40, 3, 0, M + 7), 0), (ALIGNMENT, (2 << 32) | (M as u64 + 7)));
         assert_eq!(asked(&start, d_form(LVD, 3, 0, M), 0), (DATA_STORAGE, 8 << 32 | M as u64));
         assert_eq!(asked(&start, d_form(STVDU, 3, 4, M + 4), 0), (ALIGNMENT, 1 << 63 | 8 << 32 | (M as u64 + 4)));
         assert_eq!(asked(&start, ILLEGAL, 0), (ILLEGAL_WORD, 0));
@@ -134,7 +135,7 @@ fn accesses_of_every_width() {
     let accesses =
         [(1, [34, 35], 87, [38, 39], 215), (2, [40, 41], 279, [44, 45], 407), (4, [32, 33], 23, [36, 37], 151)];
     for (bytes, loads, indexed_load, stores, indexed_store) in accesses {
-        for address in [0x100, 0x101, 0x102, M - bytes, M, M + 1, u32::MAX] {
+        for address in [0x100, 0x101, 0x102, 0x107, M - bytes, M - 1, M, M + 1, M + 7, u32::MAX] {
             for (displaced, indexed, writes) in [(loads, indexed_load, false), (stores, indexed_store, true)] {
                 let displaced = displaced.map(|opcode| d_form(opcode, 5, 4, 0));
                 for word in [displaced[0], displaced[1], x_form(5, 0, 4, indexed, 0)] {

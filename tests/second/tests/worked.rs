@@ -132,9 +132,13 @@ fn the_last_word_of_memory() {
     assert_eq!((loaded.gpr[3], loaded.iar), (0x0123_4567, 4));
     let outside = run(lwz(32), 0);
     assert_eq!((outside.iar, outside.edr, outside.isr, outside.gpr[3]), (0x060, 32, 0, 0));
-    for at in [30, 33] {
-        let unaligned = run(stw(at), 0);
-        assert_eq!((unaligned.iar, unaligned.edr, unaligned.isr), (0x0C0, at, isr::ST));
+    let unaligned = run(lwz(26), 0x0123_4567);
+    assert_eq!((unaligned.gpr[3], unaligned.iar), (0x0000_0123, 4));
+    let crossing = run(stw(30), 0);
+    assert_eq!((crossing.iar, crossing.edr, crossing.isr), (0x0C0, 30, isr::ST));
+    for (word, status) in [(lwz(33), 0), (stw(33), isr::ST)] {
+        let outside = run(word, 0);
+        assert_eq!((outside.iar, outside.edr, outside.isr), (0x060, 33, status));
     }
 }
 
@@ -174,7 +178,7 @@ fn spr_halves_are_swapped() {
 
 #[test]
 fn an_update_form_that_faults_leaves_ra() {
-    for (word, vector) in [(d_form(33, 3, 4, 2), 0x0C0), (d_form(37, 3, 4, 0x400), 0x060)] {
+    for (word, vector) in [(d_form(33, 3, 4, 6), 0x0C0), (d_form(37, 3, 4, 0x400), 0x060)] {
         let mut start = core();
         start.gpr[4] = 0x100;
         let end = after(start, &[word]);

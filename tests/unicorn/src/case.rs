@@ -50,6 +50,8 @@ pub struct Case {
     pub mnemonic: &'static str,
     pub word: u32,
     pub before: Side,
+    /// It accesses a halfword or word that is not aligned.
+    pub unaligned: bool,
 }
 
 impl Case {
@@ -60,9 +62,10 @@ impl Case {
                 break form;
             }
         };
-        let mut case = Case { mnemonic: form.mnemonic, word: draw_word(form, urn), before: Side::draw(urn) };
+        let mut case =
+            Case { mnemonic: form.mnemonic, word: draw_word(form, urn), before: Side::draw(urn), unaligned: false };
         if let Some(size) = case.access() {
-            case.aim(urn, size);
+            case.unaligned = !case.aim(urn, size).is_multiple_of(size);
         }
         case
     }
@@ -79,16 +82,18 @@ impl Case {
         }
     }
 
-    /// Sets registers so that the address is aligned and among the data: unaligned and outside are the board's own.
-    fn aim(&mut self, urn: &mut Urn, size: u32) {
-        let address = urn.below(DATA / 8) * 8 + urn.below(8 / size) * size;
+    /// Sets registers so that the bytes are among the data, in one aligned group of eight, and gives their address: what
+    /// crosses a group or is outside is the board's own.
+    fn aim(&mut self, urn: &mut Urn, size: u32) -> u32 {
+        let mut address = urn.below(DATA / 8) * 8 + urn.below(8 - size + 1);
         let (ra, rb) = (self.word >> 16 & 31, self.word >> 11 & 31);
         if self.word >> 26 == 31 {
             match (ra, rb) {
                 (0, _) => self.set(rb, address),
                 _ if ra == rb => {
-                    // Twice the register: eight bytes apart reach every aligned size.
-                    self.set(ra, (address / 8 * 4) | urn.some_of(0x8000_0000));
+                    // Twice the register is even.
+                    address &= !1;
+                    self.set(ra, (address / 2) | urn.some_of(0x8000_0000));
                 }
                 _ => {
                     let index = address.wrapping_sub(self.get(ra));
@@ -100,6 +105,7 @@ impl Case {
         } else {
             self.set(ra, address.wrapping_sub(self.word as u16 as i16 as u32));
         }
+        address
     }
 
     fn set(&mut self, register: u32, value: u32) {

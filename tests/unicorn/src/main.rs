@@ -35,7 +35,7 @@ fn compare(urn: &mut Urn, cases: u64) -> u64 {
     let mut emulator = Emulator::new();
     let mut memory = [0; case::MEMORY];
     let mut seen = BTreeMap::new();
-    let mut differences = 0;
+    let (mut unaligned, mut differences) = (0, 0);
     urn.fill(&mut memory);
     emulator::install(&mut memory);
     for number in 0..cases {
@@ -45,6 +45,7 @@ fn compare(urn: &mut Urn, cases: u64) -> u64 {
         let core = case.run_library(&mut memory);
         let emulated = emulator.run(&case);
         *seen.entry(case.mnemonic).or_insert(0u64) += 1;
+        unaligned += case.unaligned as u64;
         if core != emulated || memory != emulator.memory() {
             differences += 1;
             show(differences, number, &case, &core, &emulated, &memory, emulator.memory());
@@ -57,6 +58,7 @@ fn compare(urn: &mut Urn, cases: u64) -> u64 {
     for (mnemonic, count) in seen {
         println!("{mnemonic:8} {count:10}");
     }
+    println!("{unaligned} accesses not aligned, each inside its group of eight bytes");
     differences
 }
 

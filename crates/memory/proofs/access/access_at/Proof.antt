@@ -15,4 +15,4 @@ access-at-spec =
     (λ c κs. search needs)
     (λ c. omega (arith, c .size .ensures, bytes-le (c .before .before .args .width)))
     (λ c κs. search needs)
-    (λ c. rw (c .judged .ensures, c .before .size .ensures, c .before .before .aligned .ensures)))
+    (λ c. rw (c .judged .ensures, c .before .size .ensures, c .before .before .placed .ensures)))
