@@ -157,9 +157,9 @@ enum ppe42_told {
     PPE42_TAKES_DECREMENTER = 5,
     PPE42_TAKES_FIXED_INTERVAL = 6,
     PPE42_TAKES_WATCHDOG = 7,
-    PPE42_FAULTS_DATA_STORAGE = 8,        /* an aligned data access, or a dcbz block, falls outside */
+    PPE42_FAULTS_DATA_STORAGE = 8,        /* a data access, or a dcbz block, falls outside */
     PPE42_FAULTS_INSTRUCTION_STORAGE = 9, /* IAR itself is outside: no word was fetched */
-    PPE42_FAULTS_ALIGNMENT = 10,          /* a data access is unaligned, inside or outside */
+    PPE42_FAULTS_ALIGNMENT = 10,          /* a data access crosses a multiple of 8, inside or outside */
     PPE42_FAULTS_ILLEGAL = 11,            /* the word at IAR is no instruction */
     PPE42_FAULTS_TRAP = 12                /* a trap with DBCR[TRAP] clear */
 };

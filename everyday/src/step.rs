@@ -68,8 +68,15 @@ impl Step {
             Fault::Illegal => format!("the word {word:08X} at {at} is no instruction"),
             Fault::Trap => format!("trap by the word at {at}"),
             Fault::DataStorage => format!("{} by the word at {at}", self.tried()),
-            Fault::Alignment => format!("unaligned {} by the word at {at}", self.tried()),
+            Fault::Alignment => {
+                format!("{} across {:08X}, a multiple of 8, by the word at {at}", self.tried(), self.crossed())
+            }
         }
+    }
+
+    /// Where the group of eight bytes ends in which its access begins.
+    fn crossed(&self) -> u32 {
+        self.access.map_or(0, |access| (access.address / 8 * 8).wrapping_add(8))
     }
 
     fn tried(&self) -> String {

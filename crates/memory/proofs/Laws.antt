@@ -1,13 +1,13 @@
 -- Laws of widths and of the cleared block. Assumes nothing.
 use Prim.Native.Nat.{ℕ, _+_, _-_, _%_, _≤_}
 use native.Mathlib.Omega.{arith}
-use mathlib.Core.Bool.{Bool, true, false, not, _&&_, _||_}
-use mathlib.Core.Path.{_≡_, refl, sym}
+use mathlib.Core.Bool.{Bool, true, false, not, _&&_}
+use mathlib.Core.Path.{_≡_, refl}
 use mathlib.Core.List.{List, append-assoc}
 use lib.Dec.{lit≤, leb, eqb}
 use lib.ListN.{length, take, drop, replicate, length-drop}
 use lib.Seq.{sets, length-take-le, drop-drop, sets-eq}
-use borrow.Author.Tests.{leb-true, lt-leb, eqb-true, eqb-false, not-true}
+use borrow.Author.Tests.{leb-true, eqb-true, eqb-false, not-true}
 use borrow.Rule.Slice.PartMut.{putMid}
 use Rattle.word.proofs.Truth.{and-true}
 use Rattle.word.specs.Width.{bytes}
@@ -19,14 +19,6 @@ pub bytes-le : (w : Width) → bytes w ≤ 4
 bytes-le Width.Byte = lit≤ tt
 bytes-le Width.Half = lit≤ tt
 bytes-le Width.Word = lit≤ tt
-
--- a doubleword lies inside a group of eight bytes only where it is aligned
-double-cases : (a : ℕ) (p : Bool) → alignedOf a 8 ≡ p → p ≡ (p || leb (a % 8 + 8) 8)
-double-cases a true e = refl
-double-cases a false e = sym (lt-leb (a % 8 + 8) 8 (omega (arith, eqb-false (a % 8) 0 e)))
-
-pub double-placed : (a : ℕ) → alignedOf a 8 ≡ placedOf a 8
-double-placed a = double-cases a (alignedOf a 8) refl
 
 -- what is served lies inside
 served-cases : (m a n : ℕ) (p q : Bool) → leb (a + n) m ≡ q → pick p (pick q Access.Served Access.Outside) Access.Unaligned ≡ Access.Served → a + n ≤ m

@@ -1,3 +1,4 @@
 -- What the proofs of several functions share.
+pub mod Board
 pub mod Laws
 pub mod Grow

@@ -8,7 +8,7 @@ use lib.Count.{leadingZeros}
 use lib.ListN.{replicate}
 use Rattle.word.specs.Rotate.{mask, putAt}
 use Rattle.word.specs.declared.width.Width.{Width}
-use Rattle.memory.specs.Access.{fetchAccessOf}
+use Rattle.memory.specs.Access.{accessOf, fetchAccessOf}
 use Rattle.memory.specs.Load.{valueAt, fetchOf}
 use Rattle.memory.specs.Store.{bytesOf}
 use Rattle.insn.specs.Fields.{fieldsOf}
@@ -83,7 +83,7 @@ rows =
 -- every row holds: both lists are computed
 pub rows-hold : map computed rows ≡ map printed rows
 unfolding bytesOf decodeOf fieldsOf regOf primary primaryRows loadStore loadStoreRows arithmetic arithmeticRows logical logicalRows opcode4 rows4
-    stepOf countedOf tickedOf decAfter tsrAfter eventNoted pendingOf actsOf highestOf awakeOf runningOf fetchOf fetchAccessOf valueAt executeOf
+    stepOf countedOf tickedOf decAfter tsrAfter eventNoted pendingOf actsOf highestOf awakeOf runningOf fetchOf fetchAccessOf accessOf valueAt executeOf
     arithmeticOf summedOf logicalOf compareOf comparedOf rotateOf shiftOf shiftedOf resultOf recordedOf carriedOf overflowedOf cr0Of nextOf
     with withGpr gprOf putAt mask leadingZeros
 rows-hold = refl

@@ -1,6 +1,6 @@
 -- `memory::access::double_access` meets its contract: a doubleword inside a group is aligned. Assumes nothing.
 use Rattle.memory.specs.Access.{accessOf}
-use Rattle.memory.proofs.Laws.{double-placed}
+use Rattle.memory.proofs.Board.{double-by-eight}
 use borrow.Author.Needs.{needs}
 use Rattle.memory.proofs.access.double_access.Statement.{statement}
 use Rattle.memory.proofs.access.double_access.Tie as tie
@@ -12,4 +12,4 @@ double-access-spec =
     (tie.spec
     (λ c. search needs)
     (λ c κs. search needs)
-    (λ c. rw (← double-placed (c .before .args .address)) (c .judged .ensures)))
+    (λ c. rw (double-by-eight (c .before .args .address)) (c .judged .ensures)))
