@@ -15,6 +15,7 @@ use Rattle.memory.specs.Access.{pick, alignedOf, placedOf, accessOf, fet
 use Rattle.memory.specs.Load.{valueAt, doubleAt, loaded, loadOf, loadedDouble, loadDoubleOf, fetchOf}
 use Rattle.memory.specs.Store.{bytesOf, doubleBytes, written, storedOf, storedDoubleOf, blockAt, clearedOf}
 use Rattle.word.proofs.Truth.{never}
+use Rattle.memory.proofs.Board.{fetch-by-four}
 use Rattle.memory.proofs.Laws.{served-inside, fetched-inside}
 
 leb-grow : (k : ℕ) (m x : List ℕ) → leb k (length m) ≡ true → leb k (length (m ++ x)) ≡ true
@@ -32,14 +33,10 @@ pub access-grow : (m x : List ℕ) (a n : ℕ) → reachesPast (accessOf (length
 unfolding accessOf
 access-grow m x a n h = access-cases m x (a + n) (placedOf a n) (leb (a + n) (length m)) refl h
 
-fetch-cases : (m x : List ℕ) (a : ℕ) (p : Bool) → reachesPast (pick p (accessOf (length m) a 4) Access.Unaligned) ≡ false
-    → pick p (accessOf (length (m ++ x)) a 4) Access.Unaligned ≡ pick p (accessOf (length m) a 4) Access.Unaligned
-fetch-cases m x a true h = access-grow m x a 4 h
-fetch-cases m x a false h = refl
-
 fetch-access-grow : (m x : List ℕ) (a : ℕ) → reachesPast (fetchAccessOf (length m) a) ≡ false → fetchAccessOf (length (m ++ x)) a ≡ fetchAccessOf (length m) a
-unfolding fetchAccessOf
-fetch-access-grow m x a h = fetch-cases m x a (alignedOf a 4) h
+fetch-access-grow m x a h =
+    rw (fetch-by-four (length (m ++ x)) a, fetch-by-four (length m) a)
+    (access-cases m x (a + 4) (alignedOf a 4) (leb (a + 4) (length m)) refl (rw (← fetch-by-four (length m) a) h))
 
 value-grow : (w : Width) (m x : List ℕ) (a : ℕ) → a + bytes w ≤ length m → valueAt w (m ++ x) a ≡ valueAt w m a
 unfolding valueAt

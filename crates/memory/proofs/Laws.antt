@@ -2,7 +2,7 @@
 use Prim.Native.Nat.{ℕ, _+_, _-_, _%_, _≤_}
 use native.Mathlib.Omega.{arith}
 use mathlib.Core.Bool.{Bool, true, false, not, _&&_}
-use mathlib.Core.Path.{_≡_, refl}
+use mathlib.Core.Path.{_≡_, refl, sym, _∙_}
 use mathlib.Core.List.{List, append-assoc}
 use lib.Dec.{lit≤, leb, eqb}
 use lib.ListN.{length, take, drop, replicate, length-drop}
@@ -14,6 +14,7 @@ use Rattle.word.specs.Width.{bytes}
 use Rattle.memory.specs.Access.{pick, alignedOf, placedOf, accessOf, fetchAccessOf, sizedOf}
 use Rattle.word.specs.declared.width.Width.{Width}
 use Rattle.memory.specs.declared.access.Access.{Access}
+use Rattle.memory.proofs.Board.{fetch-by-four}
 
 pub bytes-le : (w : Width) → bytes w ≤ 4
 bytes-le Width.Byte = lit≤ tt
@@ -30,13 +31,8 @@ pub served-inside : (m a n : ℕ) → accessOf m a n ≡ Access.Served → a + n
 unfolding accessOf
 served-inside m a n h = served-cases m a n (placedOf a n) (leb (a + n) m) refl h
 
-fetched-cases : (m a : ℕ) (p : Bool) → pick p (accessOf m a 4) Access.Unaligned ≡ Access.Served → a + 4 ≤ m
-fetched-cases m a true h = served-inside m a 4 h
-fetched-cases m a false h = let z : _≡_ {A = ℕ} 0 1 = cc in absurd (omega arith)
-
 pub fetched-inside : (m a : ℕ) → fetchAccessOf m a ≡ Access.Served → a + 4 ≤ m
-unfolding fetchAccessOf
-fetched-inside m a h = fetched-cases m a (alignedOf a 4) h
+fetched-inside m a h = served-cases m a 4 (alignedOf a 4) (leb (a + 4) m) refl (sym (fetch-by-four m a) ∙ h)
 
 -- a block of zeros put back where it was lent from
 pub block : (a : ℕ) (m ys : List ℕ) → a + 32 ≤ length m → ys ≡ replicate (length (take (a + 32 - a) (drop a m))) 0

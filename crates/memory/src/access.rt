@@ -8,7 +8,7 @@ ghost use Rattle.memory.specs.declared.access.Access.{Access};
 use word::width::Width;
 use word::width::size;
 
-// What becomes of it.
+// What becomes of it: unaligned is what is not served for its address, wherever that is.
 pub enum Access {
     Served,
     Unaligned,
