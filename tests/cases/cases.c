@@ -461,6 +461,7 @@ static void want_stored(struct test *test, uint32_t address, uint32_t bytes) {
 }
 
 static void want_served(struct test *test, const struct each *each, uint32_t address) {
+    if (address + each->bytes > test->lend) malformed("the map serves what is outside lent memory", each->text);
     want(test, PPE42_IAR, test->start[PPE42_IAR] + 4);
     if (each->update) want(test, PPE42_R4, address);
     if (each->store) want_stored(test, address, each->bytes);
@@ -510,8 +511,11 @@ static void play_each(struct test *test, char *kind) {
     char *bytes = split(kind), *word = split(bytes), *text = split(word), *update = strstr(kind, "-update");
     if (!test->ran || !*test->map) malformed("each comes after run and map", text);
     if (update) *update = 0;
-    struct each each = {.store = !strcmp(kind, "store"), .update = update, .bytes = number(bytes, 10), .word = number(word, 16), .text = text};
+    struct each each = {.store = !strcmp(kind, "store"), .update = update, .text = text};
     if (!each.store && strcmp(kind, "load")) malformed("neither load nor store", kind);
+    each.bytes = number(bytes, 10);
+    each.word = number(word, 16);
+    if (each.bytes > 8) malformed("more than 8 bytes", text);
     test->tried = true;
     for (uint32_t address = 0; test->map[address]; address++) play_at(test, &each, address);
 }
