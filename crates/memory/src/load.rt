@@ -94,7 +94,7 @@ pub fn load_double(mem: &[u8], address: u32) -> LoadedDouble
     }
 }
 
-// The word at the instruction address.
+// The word at the instruction address, which is a multiple of 4.
 pub fn fetch(mem: &[u8], iar: u32) -> Loaded
     ensures { λ r. ⌜ r ≡ fetchOf (now (mem .entry)) iar ⌝ }
 {
