@@ -405,13 +405,18 @@ static void read_list(struct list *list, char *rest, uint8_t named(const char *t
     }
 }
 
+static void name_access(struct test *test, bool store, uint32_t bytes, uint32_t address) {
+    test->access_named = true;
+    test->access = (store ? WRITES : 0) | (uint64_t)bytes << 32 | address;
+}
+
 static void read_access(struct test *test, char *rest) {
     char *bytes = split(rest), *address = split(bytes);
     bool store = !strcmp(rest, "store");
     test->access_named = true;
     if (!strcmp(rest, "none") && !*bytes) return;
     if (!store && strcmp(rest, "load")) malformed("neither none, load nor store", rest);
-    test->access = (store ? WRITES : 0) | (uint64_t)number(bytes, 10) << 32 | number(address, 16);
+    name_access(test, store, number(bytes, 10), number(address, 16));
 }
 
 static void read_bytes(struct piece *piece, char *rest) {
@@ -501,8 +506,7 @@ static void play_at(const struct test *test, const struct each *each, uint32_t a
         one.reach = 1;
     }
     one.tells = (struct list){.bytes = &told, .count = 1};
-    one.access_named = true;
-    one.access = (each->store ? WRITES : 0) | (uint64_t)each->bytes << 32 | address;
+    name_access(&one, each->store, each->bytes, address);
     check(&one);
 }
 

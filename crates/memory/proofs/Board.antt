@@ -3,7 +3,7 @@ use Prim.Native.Nat.{ℕ, _+_, _-_, _*_, _/_, _%_, _≤_}
 use native.Mathlib.Omega.{arith}
 use mathlib.Core.Bool.{Bool, true, false, _||_}
 use mathlib.Core.Path.{_≡_, refl, sym, _∙_}
-use lib.Dec.{leb, eqb}
+use lib.Dec.{leb, eqb, lit≤}
 use borrow.Author.Tests.{le-leb, leb-true, lt-leb, eq-eqb, eqb-true, eqb-false}
 use Rattle.word.specs.Width.{bytes}
 use Rattle.word.specs.declared.width.Width.{Width}
@@ -28,22 +28,22 @@ in-group Width.Byte a h = le-leb (a % 8 + 1) 8 (omega arith)
 in-group Width.Half a h = le-leb (a % 8 + 2) 8 (omega (arith, eqb-true (a % 2) 0 h))
 in-group Width.Word a h = le-leb (a % 8 + 4) 8 (omega (arith, eqb-true (a % 4) 0 h))
 
-group-ends : (n a : ℕ) → 1 ≤ n → n ≤ 4 → leb (a % 8 + n) 8 ≡ eqb ((a + n - 1) / 8) (a / 8)
-group-ends n a l h =
+group-ends : (n a : ℕ) → 1 ≤ n → leb (a % 8 + n) 8 ≡ eqb ((a + n - 1) / 8) (a / 8)
+group-ends n a l =
     same-truth _ _
     (λ e. eq-eqb ((a + n - 1) / 8) (a / 8) (omega (arith, leb-true (a % 8 + n) 8 e)))
     (λ e. le-leb (a % 8 + n) 8 (omega (arith, eqb-true ((a + n - 1) / 8) (a / 8) e)))
 
-widths : (w : Width) → (1 ≤ bytes w) × (bytes w ≤ 4)
-widths Width.Byte = (omega arith, omega arith)
-widths Width.Half = (omega arith, omega arith)
-widths Width.Word = (omega arith, omega arith)
+some-bytes : (w : Width) → 1 ≤ bytes w
+some-bytes Width.Byte = lit≤ tt
+some-bytes Width.Half = lit≤ tt
+some-bytes Width.Word = lit≤ tt
 
 -- a byte, halfword or word is well placed where its last byte is in the group of its first
 pub one-group : (w : Width) (a : ℕ) → placedOf a (bytes w) ≡ eqb ((a + bytes w - 1) / 8) (a / 8)
 one-group w a =
     or-by (alignedOf a (bytes w)) (leb (a % 8 + bytes w) 8) (in-group w a)
-    ∙ group-ends (bytes w) a (widths w .0) (widths w .1)
+    ∙ group-ends (bytes w) a (some-bytes w)
 
 -- a doubleword, where it is aligned by eight
 double-cases : (a : ℕ) (p : Bool) → alignedOf a 8 ≡ p → (p || leb (a % 8 + 8) 8) ≡ p

@@ -12,7 +12,7 @@ pick false a b = b
 abbrev pub alignedOf : ℕ → ℕ → Bool
 alignedOf a n = eqb (a % n) 0
 
--- n bytes at address a are aligned, or unaligned but wholly inside one aligned group of eight bytes
+-- n bytes at address a are aligned, or unaligned but wholly inside one aligned group of eight bytes (docs/DECISIONS.md D27)
 abbrev pub placedOf : ℕ → ℕ → Bool
 placedOf a n = alignedOf a n || leb (a % 8 + n) 8
 
