@@ -12,7 +12,7 @@
  *   of the list the byte is 0, so an empty list is a run without events. The list may be longer than the budget, and its
  *   bytes past the budget are checked like the others.
  * - A halted state (halt code 1 to 5) is accepted, takes no step and stays as it is. Budget 0 takes no step either.
- * - A refusal counts 0 and leaves every byte as given.
+ * - A refusal counts 0 (from ppe42_srec_read a line) and leaves every byte as given.
  *
  * The functions keep nothing between calls and allocate nothing. They may run side by side on buffers of their own. The
  * buffers of one call must not overlap. An empty buffer may have any pointer, a null one too. From now on functions are
@@ -87,8 +87,8 @@ enum ppe42_halt {
 };
 
 /* Why input was refused. A run checks 7 (the state's length), 1, 2, 3, 4, 5 and a step 7, 1, 2, 3, 5; reading a capture
- * checks 7, 1, 2, 3 and writing one 7, 1, 2, 3, 8. Assembling a line checks 11, 12, 6, and disassembling a word 8. The first
- * that applies is given. */
+ * checks 7, 1, 2, 3 and writing one 7, 1, 2, 3, 8. Assembling a line checks 11, 12, 6, and disassembling a word 8. Reading
+ * S-records checks 1, then each line for 13, 14, 15, 16, 17, and writing them 1, 8. The first that applies is given. */
 enum ppe42_refused {
     PPE42_ACCEPTED = 0,
     PPE42_REFUSED_MEMORY = 1,   /* memory of 0 bytes, of no multiple of 32, or over 1,048,576 */
@@ -98,14 +98,21 @@ enum ppe42_refused {
     PPE42_REFUSED_EVENTS = 5,   /* over 1,048,576 event bytes, or one of 64 or more */
     PPE42_REFUSED_OPERANDS = 6, /* operands that make no valid instruction */
     PPE42_REFUSED_CAPTURE = 7,  /* no capture: under 188 bytes or a wrong trailer; or a state that is not 144 bytes */
-    PPE42_REFUSED_OUTPUT = 8,   /* an output shorter than memory_len + 156; of a line, than 64 */
+    PPE42_REFUSED_OUTPUT = 8,   /* an output shorter than memory_len + 156; of a line, than 64; of S-records, than 79 x
+                                   memory_len / 32 + 15 */
     PPE42_REFUSED_LINE = 11,    /* no line of the grammar, nested deeper than 16, or longer than 256 bytes */
-    PPE42_REFUSED_VALUE = 12    /* a value or partial value outside -2^31 to 2^31 - 1 */
+    PPE42_REFUSED_VALUE = 12,   /* a value or partial value outside -2^31 to 2^31 - 1 */
+    PPE42_REFUSED_RECORD = 13,  /* a line that is no record, a wrong check byte, a data record of another type than those
+                                   before it, or a line after the end record */
+    PPE42_REFUSED_OUTSIDE = 14, /* a data byte outside memory */
+    PPE42_REFUSED_TWICE = 15,   /* a byte that an earlier record has named */
+    PPE42_REFUSED_END = 16,     /* an end record that is missing, or of another type than the data */
+    PPE42_REFUSED_COUNT = 17    /* an S5 that does not count the data records before it */
 };
 
-/* The answer of a run, a step, a capture function or ppe42_tell is the refusal times 2^32 plus a count, which is 0 where there
- * is a refusal; ppe42_run_reach and ppe42_run_inside may add 2^63. ppe42_access, ppe42_legal, ppe42_rewrite,
- * ppe42_assemble and ppe42_disassemble have answers of their own. */
+/* The answer of a run, a step, a capture or S-record function or ppe42_tell is the refusal times 2^32 plus a count, which is 0
+ * where there is a refusal, but from ppe42_srec_read; ppe42_run_reach and ppe42_run_inside may add 2^63. ppe42_access,
+ * ppe42_legal, ppe42_rewrite, ppe42_assemble and ppe42_disassemble have answers of their own. */
 static inline uint32_t ppe42_refusal(uint64_t answer) { return (uint32_t)(answer >> 32) & 0x7FFFFFFF; }
 static inline uint32_t ppe42_count(uint64_t answer) { return (uint32_t)answer; }
 static inline int ppe42_reached(uint64_t answer) { return (int)(answer >> 63); }
@@ -177,6 +184,16 @@ uint64_t ppe42_capture_check(const uint8_t *file, size_t len);
 /* Writes a capture into the first memory_len + 156 bytes of out and no others. The count is of bytes written. */
 uint64_t ppe42_capture_write(const uint8_t *state, size_t state_len, const uint8_t *memory, size_t memory_len,
                              uint8_t *out, size_t out_len);
+
+/* Reads a file of Motorola S-records (S0, S1, S2, S3, S5 and the ends S9, S8, S7) into memory; docs/CORE.md has the format. The
+ * bytes that no record names stay. Where there is a refusal nothing is stored, and the count is not 0 but the number of the line
+ * it was given for, from 1 (4294967295 at most); a missing end counts as the line after the last, and with 1 it is 0. The one
+ * function that wants stack: 128 KiB. */
+uint64_t ppe42_srec_read(uint8_t *memory, size_t memory_len, const uint8_t *file, size_t len);
+
+/* Writes memory as S3 records of 32 bytes and one S7 of address 0, into the first 79 x memory_len / 32 + 15 bytes of out and no
+ * others. The count is of bytes written. */
+uint64_t ppe42_srec_write(const uint8_t *memory, size_t memory_len, uint8_t *out, size_t out_len);
 
 /* 1 if the word is an instruction, 0 if it is illegal. */
 uint32_t ppe42_legal(uint32_t word);

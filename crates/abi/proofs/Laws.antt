@@ -1,5 +1,5 @@
 -- The numbers that cross the boundary are small enough for their places. Assumes nothing.
-use Prim.Native.Nat.{ℕ, _+_, _*_, _^_, _<_, _≤_}
+use Prim.Native.Nat.{ℕ, _+_, _*_, _/_, _^_, _<_, _≤_}
 use native.Mathlib.Omega.{arith}
 use mathlib.Core.Bool.{Bool, true, false}
 use mathlib.Core.Path.{_≡_, refl, sym, ap, _∙_}
@@ -7,7 +7,7 @@ use mathlib.Core.List.{List, []}
 use lib.Dec.{lit<, lit≤, ltb}
 use lib.ListN.{length, take}
 use lib.Seq.{length-take-le}
-use Rattle.memory.specs.Access.{pick}
+use Rattle.memory.specs.Access.{pick, sizedOf}
 use Rattle.expr.specs.Grammar.{pick as choose}
 use Rattle.insn.specs.declared.instr.Decoded.{Decoded}
 use Rattle.asm.specs.Answer.{Answer}
@@ -20,16 +20,17 @@ use Rattle.asm.proofs.Columns.{answer-small}
 use Rattle.abi.specs.Boundary.{listedAnswer}
 use Rattle.memory.proofs.Laws.{sized-bounds}
 use Rattle.machine.specs.Register.{startRefusal}
-use Rattle.machine.proofs.Refusals.{or-accepts, start-accepts}
-use Rattle.machine.specs.Refusal.{numberOf, acceptsOf}
+use Rattle.machine.proofs.Refusals.{or-accepts, unless-accepts, start-accepts}
+use Rattle.machine.specs.Refusal.{numberOf, acceptsOf, unless}
 use Rattle.machine.specs.declared.state.State.{State}
 use Rattle.machine.specs.declared.refusal.Refusal.{Refusal}
 use Rattle.capture.specs.Read.{sizeOf, readRefusal, partOf}
 use Rattle.capture.proofs.Checks.{read-accepts}
 use Rattle.capture.specs.Write.{writeRefusal, writtenOf}
+use Rattle.srecord.specs.Write.{writeRefusal as srecRefusal, writtenOf as srecWritten}
 
 -- a refusal's number leaves the first bit of an answer free
-pub number-small : (r : Refusal) → numberOf r ≤ 8
+pub number-small : (r : Refusal) → numberOf r ≤ 17
 number-small Refusal.None = lit≤ tt
 number-small Refusal.Memory = lit≤ tt
 number-small Refusal.Iar = lit≤ tt
@@ -38,6 +39,11 @@ number-small Refusal.Budget = lit≤ tt
 number-small Refusal.Events = lit≤ tt
 number-small Refusal.Capture = lit≤ tt
 number-small Refusal.Output = lit≤ tt
+number-small Refusal.Record = lit≤ tt
+number-small Refusal.Outside = lit≤ tt
+number-small Refusal.Twice = lit≤ tt
+number-small Refusal.End = lit≤ tt
+number-small Refusal.Count = lit≤ tt
 
 -- a capture's memory and a whole capture are counted by words
 part-small : (b : Bool) (f : List ℕ) → acceptsOf (readRefusal f) ≡ b → length (pick b (take (sizeOf f) f) []) < 2 ^ 32
@@ -61,6 +67,18 @@ written-small false s m n e = lit< tt
 pub bytes-small : (s : State) (m out : List ℕ) → writtenOf s m out .bytes < 2 ^ 32
 unfolding writtenOf
 bytes-small s m out = written-small (acceptsOf (writeRefusal s (length m) (length out))) s (length m) (length out) refl
+
+srec-cases : (b : Bool) (m n : ℕ) → acceptsOf (srecRefusal m n) ≡ b → pick b (79 * (m / 32) + 15) 0 < 2 ^ 32
+unfolding srecRefusal
+srec-cases true m n e =
+    let a = or-accepts (unless (sizedOf m) Refusal.Memory) _ e in
+    let h = sized-bounds m (unless-accepts (sizedOf m) Refusal.Memory refl (a .0)) in
+    omega arith
+srec-cases false m n e = lit< tt
+
+pub srec-small : (m out : List ℕ) → srecWritten m out .bytes < 2 ^ 32
+unfolding srecWritten
+srec-small m out = srec-cases (acceptsOf (srecRefusal (length m) (length out))) (length m) (length out) refl
 
 -- a line's answer is small, and so is a line's length
 pub packed-fits : (s : List ℕ) (a : Assembled) → Answer s a → (a .column * 2 ^ 32 < 2 ^ 60) × (a .refusal * 2 ^ 48 + a .column * 2 ^ 32 < 2 ^ 60)

@@ -1,9 +1,9 @@
 -- What crosses the C boundary: a state as 144 lent bytes, and answers as numbers.
-use Prim.Native.Nat.{ℕ, _+_, _*_, _^_}
+use Prim.Native.Nat.{ℕ, _+_, _-_, _*_, _^_}
 use mathlib.Core.Bool.{Bool, _&&_}
 use mathlib.Core.Path.{_≡_}
 use mathlib.Core.List.{List}
-use lib.Dec.{eqb}
+use lib.Dec.{ltb, eqb}
 use lib.ListN.{length}
 use lib.Seq.{sets}
 use Rattle.word.specs.Bits.{digit}
@@ -24,6 +24,8 @@ use Rattle.run.specs.declared.outcome.Outcome.{Outcome}
 use Rattle.capture.specs.Words.{wordsAt, wordBytes, stateOf, wordsOf}
 use Rattle.capture.specs.Read.{readOf, partOf}
 use Rattle.capture.specs.Write.{writtenOf as captureWritten, outOf}
+use Rattle.srecord.specs.File.{readOf as srecRead}
+use Rattle.srecord.specs.Write.{writtenOf as srecWritten}
 
 abbrev pub legalOf : Decoded → ℕ
 legalOf (Decoded.Insn i) = 1
@@ -113,6 +115,17 @@ writeAnswer s m out =
 
 unfoldable pub writeOut : List ℕ → List ℕ → List ℕ → List ℕ
 writeOut s m out = pick (isState s) (outOf (lentState s) m out) out
+
+-- the number of a line, as far as it fits beside a refusal (docs/DECISIONS.md D43)
+abbrev pub lineCount : ℕ → ℕ
+lineCount k = pick (ltb k (2 ^ 32)) k (2 ^ 32 - 1)
+
+-- S-records read into m: the refusal and the line that it is given for; written: the refusal and the bytes
+unfoldable pub srecReadAnswer : List ℕ → List ℕ → ℕ
+srecReadAnswer m f = let v = srecRead (length m) f in answerOf (v .refusal) (lineCount (v .line))
+
+unfoldable pub srecWriteAnswer : List ℕ → List ℕ → ℕ
+srecWriteAnswer m out = let w = srecWritten m out in answerOf (w .refusal) (w .bytes)
 
 -- a line's answer as one number: the refusal, the column, the word
 abbrev pub assembledAnswer : Assembled → ℕ

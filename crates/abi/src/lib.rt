@@ -4,7 +4,9 @@ ghost use mathlib.Core.Path.{_≡_};
 ghost use Prim.Native.Nat.{_<_, _^_};
 ghost use lib.ListN.{length};
 ghost use Rattle.insn.specs.Read.{decodeOf};
-ghost use Rattle.abi.specs.Boundary.{legalOf, rewriteOf, answerOf, stored, runAnswer, runState, runLent, reachAnswer, insideAnswer, insideState, insideLent, stepAnswer, stepState, stepLent, tellAnswer, packedOf, accessAnswer, checkAnswer, writeAnswer, writeOut, Assembles, listedAnswer};
+ghost use Rattle.abi.specs.Boundary.{legalOf, rewriteOf, answerOf, stored, runAnswer, runState, runLent, reachAnswer, insideAnswer, insideState, insideLent, stepAnswer, stepState, stepLent, tellAnswer, packedOf, accessAnswer, checkAnswer, writeAnswer, writeOut, srecReadAnswer, srecWriteAnswer, Assembles, listedAnswer};
+ghost use Rattle.srecord.specs.File.{memoryOf};
+ghost use Rattle.srecord.specs.Write.{outOf};
 ghost use Rattle.asm.specs.Listing.{listedOf, listedOut};
 use asm::disassemble::Listed;
 use insn::instr::Decoded;
@@ -198,6 +200,31 @@ pub extern "C" fn ppe42_capture_write(state: &[u8], memory: &[u8], out: &mut [u8
     }
     let start = capture::words::state_at(state, 0);
     let written = capture::write::write(start, memory, out);
+    let refusal = written.refusal;
+    answer(refusal, written.bytes as u32)
+}
+
+// A file of S-records read into memory: the refusal, and the line that it is given for.
+#[no_mangle]
+pub extern "C" fn ppe42_srec_read(memory: &mut [u8], file: &[u8]) -> u64
+    ensures { λ r. ⌜ (r ≡ srecReadAnswer (now (memory .entry)) (now (file .entry))) × (now (memory .exit) ≡ memoryOf (now (memory .entry)) (now (file .entry))) ⌝ }
+{
+    let verdict = srecord::read::read(memory, file);
+    let refusal = verdict.refusal;
+    let line = verdict.line;
+    if line < 0x1_0000_0000 {
+        answer(refusal, line as u32)
+    } else {
+        answer(refusal, 0xFFFF_FFFF)
+    }
+}
+
+// Memory written as S-records into the first bytes of the output.
+#[no_mangle]
+pub extern "C" fn ppe42_srec_write(memory: &[u8], out: &mut [u8]) -> u64
+    ensures { λ r. ⌜ (r ≡ srecWriteAnswer (now (memory .entry)) (now (out .entry))) × (now (out .exit) ≡ outOf (now (memory .entry)) (now (out .entry))) ⌝ }
+{
+    let written = srecord::write::write(memory, out);
     let refusal = written.refusal;
     answer(refusal, written.bytes as u32)
 }

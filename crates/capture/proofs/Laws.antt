@@ -9,6 +9,7 @@ use lib.Seq.{sets, sets-eq, drop-cons, take-all, take-suc-set, append-snoc}
 use Rattle.word.specs.declared.width.Width.{Width}
 use Rattle.memory.specs.Load.{valueAt}
 use Rattle.memory.specs.Store.{bytesOf}
+use Rattle.memory.proofs.Laws.{sets-at}
 use Rattle.machine.specs.declared.state.State.{State}
 use Rattle.capture.specs.Words.{wordsAt, wordBytes, wordsOf}
 use Rattle.capture.specs.Write.{trailerOf, captureOf}
@@ -53,13 +54,6 @@ put-more at k out ws h =
 pub put-all : (k p : ℕ) (out ws : List ℕ) → length ws ≤ k → sets out p (wordBytes (drop k ws)) ≡ out
 unfolding wordBytes
 put-all k p out ws h = rw (drop-of-length-le ws h)
-
--- stores one after the other are one run of stores
-pub sets-at : (xs ys l : List ℕ) (i j : ℕ) → j ≡ i + length xs → sets (sets l i xs) j ys ≡ sets l i (xs ++ ys)
-sets-at [] ys l i j e =
-    let z : j ≡ i = omega arith in
-    rw z
-sets-at (x ∷ xs) ys l i j e = sets-at xs ys (set l i x) (suc i) j (omega arith)
 
 pub bytes-length : (ws : List ℕ) → length (wordBytes ws) ≡ 4 * length ws
 unfolding wordBytes bytesOf

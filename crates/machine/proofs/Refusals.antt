@@ -20,6 +20,11 @@ accepts-none Refusal.Budget h = never (sym h)
 accepts-none Refusal.Events h = never (sym h)
 accepts-none Refusal.Capture h = never (sym h)
 accepts-none Refusal.Output h = never (sym h)
+accepts-none Refusal.Record h = never (sym h)
+accepts-none Refusal.Outside h = never (sym h)
+accepts-none Refusal.Twice h = never (sym h)
+accepts-none Refusal.End h = never (sym h)
+accepts-none Refusal.Count h = never (sym h)
 
 -- no refusal by two checks is none by either
 or-cases : (a b : Refusal) (t : Bool) → acceptsOf a ≡ t → acceptsOf (pick t b a) ≡ true → (t ≡ true) × (acceptsOf b ≡ true)

@@ -11,6 +11,11 @@ pub enum Refusal {
     Events,
     Capture,
     Output,
+    Record,
+    Outside,
+    Twice,
+    End,
+    Count,
 }
 
 pub fn number(r: Refusal) -> u32
@@ -25,6 +30,11 @@ pub fn number(r: Refusal) -> u32
         Refusal::Events => 5,
         Refusal::Capture => 7,
         Refusal::Output => 8,
+        Refusal::Record => 13,
+        Refusal::Outside => 14,
+        Refusal::Twice => 15,
+        Refusal::End => 16,
+        Refusal::Count => 17,
     }
 }
 
@@ -41,5 +51,10 @@ pub fn accepts(r: Refusal) -> bool
         Refusal::Events => false,
         Refusal::Capture => false,
         Refusal::Output => false,
+        Refusal::Record => false,
+        Refusal::Outside => false,
+        Refusal::Twice => false,
+        Refusal::End => false,
+        Refusal::Count => false,
     }
 }

@@ -72,7 +72,7 @@ unfolding loadDoubleOf
 load-double-grow m x a h = rw (access-grow m x a 8 h) (loaded-double-grow m x a (accessOf (length m) a 8) refl)
 
 -- a run of bytes within the memory, of any length
-sets-grow : (vs m x : List ℕ) (a : ℕ) → a + length vs ≤ length m → sets (m ++ x) a vs ≡ sets m a vs ++ x
+pub sets-grow : (vs m x : List ℕ) (a : ℕ) → a + length vs ≤ length m → sets (m ++ x) a vs ≡ sets m a vs ++ x
 sets-grow [] m x a h = refl
 sets-grow (v ∷ vs) m x a h =
     rw (set-append-left m x a v (omega arith)) (sets-grow vs (set m a v) x (suc a) (simp length-set (omega arith)))

@@ -1,11 +1,11 @@
--- Laws of widths and of the cleared block. Assumes nothing.
-use Prim.Native.Nat.{ℕ, _+_, _-_, _%_, _≤_}
+-- Laws of widths, of the cleared block, of stores one after the other and of a memory's length. Assumes nothing.
+use Prim.Native.Nat.{ℕ, suc, _+_, _-_, _%_, _≤_}
 use native.Mathlib.Omega.{arith}
 use mathlib.Core.Bool.{Bool, true, false, not, _&&_}
 use mathlib.Core.Path.{_≡_, refl, sym, _∙_}
-use mathlib.Core.List.{List, append-assoc}
+use mathlib.Core.List.{List, [], _∷_, _++_, append-assoc}
 use lib.Dec.{lit≤, leb, eqb}
-use lib.ListN.{length, take, drop, replicate, length-drop}
+use lib.ListN.{length, take, drop, set, replicate, length-drop}
 use lib.Seq.{sets, length-take-le, drop-drop, sets-eq}
 use borrow.Author.Tests.{leb-true, eqb-true, eqb-false, not-true}
 use borrow.Rule.Slice.PartMut.{putMid}
@@ -42,10 +42,23 @@ block a m ys h e =
     let l : 32 ≤ length (drop a m) = simp length-drop (omega arith) in
     rw (e, k, length-take-le 32 (drop a m) l, drop-drop, sets-eq (replicate 32 0) m a h, append-assoc)
 
--- a length that the board has
+-- stores one after the other are one run of stores
+pub sets-at : (xs ys l : List ℕ) (i j : ℕ) → j ≡ i + length xs → sets (sets l i xs) j ys ≡ sets l i (xs ++ ys)
+sets-at [] ys l i j e =
+    let z : j ≡ i = omega arith in
+    rw z
+sets-at (x ∷ xs) ys l i j e = sets-at xs ys (set l i x) (suc i) j (omega arith)
+
+-- a length that the board has, and that it is one of whole blocks
 pub sized-bounds : (m : ℕ) → sizedOf m ≡ true → (32 ≤ m) × (m ≤ 1048576)
 unfolding sizedOf
 sized-bounds m h =
     let x = and-true (not (eqb m 0) && eqb (m % 32) 0) (leb m 1048576) h in
     let y = and-true (not (eqb m 0)) (eqb (m % 32) 0) (x .0) in
     (omega (arith, eqb-false m 0 (not-true (eqb m 0) (y .0)), eqb-true (m % 32) 0 (y .1)), leb-true m 1048576 (x .1))
+
+pub sized-whole : (m : ℕ) → sizedOf m ≡ true → m % 32 ≡ 0
+unfolding sizedOf
+sized-whole m h =
+    let x = and-true (not (eqb m 0) && eqb (m % 32) 0) (leb m 1048576) h in
+    eqb-true (m % 32) 0 (and-true (not (eqb m 0)) (eqb (m % 32) 0) (x .0) .1)

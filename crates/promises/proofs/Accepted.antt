@@ -1,7 +1,7 @@
 -- What a run leaves is accepted again: a state with no refusal, and a memory as long as before. Assumes nothing.
 use Prim.Native.Nat.{ℕ, zero, suc}
 use mathlib.Core.Bool.{Bool, false}
-use mathlib.Core.Path.{_≡_, refl, _∙_}
+use mathlib.Core.Path.{_≡_, refl, ap, _∙_}
 use mathlib.Core.List.{List}
 use lib.Dec.{eqb}
 use lib.ListN.{length, getD}
@@ -19,7 +19,7 @@ use Rattle.insn.specs.declared.instr.Decoded.{Decoded}
 use Rattle.insn.specs.declared.instr.LoadStore.{LoadStore}
 use Rattle.insn.specs.declared.instr.CacheOp.{CacheOp}
 use Rattle.machine.specs.State.{gprOf, vdrOf}
-use Rattle.machine.specs.Refusal.{unless, orElse}
+use Rattle.machine.specs.Refusal.{acceptsOf, unless, orElse}
 use Rattle.machine.specs.Register.{refusalOf, startRefusal}
 use Rattle.machine.specs.After.{After}
 use Rattle.machine.specs.LoadStore.{loadAt, storeAt, loadDoubleAt, storeDoubleAt, loadStoreOf}
@@ -30,6 +30,7 @@ use Rattle.machine.specs.declared.state.State.{State}
 use Rattle.machine.specs.declared.interrupt.Cause.{Cause}
 use Rattle.machine.specs.declared.step.Pending.{Pending}
 use Rattle.machine.specs.declared.refusal.Refusal.{Refusal}
+use Rattle.machine.proofs.Refusals.{accepts-none, or-accepts}
 use Rattle.run.specs.Run.{Ran, runOf}
 use Rattle.run.specs.Outcome.{runRefusal}
 use Rattle.promises.proofs.Sound.{Sound, picked, accepted-sound, sound-accepted, next-sound, entered-sound, interrupted-sound, ticked-sound, acted-sound, arithmetic-sound, logical-sound, compare-sound, rotate-sound, branch-sound, trap-sound, system-sound, loaded-sound, loaded-double-sound, stored-sound, cleared-sound}
@@ -140,14 +141,7 @@ step-length s m e = step-left s m e .mem
 
 -- two checks in a row that refuse nothing
 pub first-none : (a b : Refusal) → orElse a b ≡ Refusal.None → a ≡ Refusal.None
-first-none Refusal.None b h = refl
-first-none Refusal.Memory b h = h
-first-none Refusal.Iar b h = h
-first-none Refusal.Reserved b h = h
-first-none Refusal.Budget b h = h
-first-none Refusal.Events b h = h
-first-none Refusal.Capture b h = h
-first-none Refusal.Output b h = h
+first-none a b h = accepts-none a (or-accepts a b (ap acceptsOf h) .0)
 
 pub second-none : (a b : Refusal) → orElse a b ≡ Refusal.None → b ≡ Refusal.None
 second-none a b h = rw (first-none a b h) at h

@@ -2,6 +2,7 @@
 use Prim.Native.Nat.{ℕ}
 use mathlib.Core.Path.{_≡_, sym, ap, _∙_}
 use mathlib.Core.List.{List}
+use lib.ListN.{length}
 use Rattle.insn.specs.Read.{decodeOf}
 use Rattle.insn.specs.Write.{writtenOf}
 use Rattle.insn.specs.declared.instr.Instr.{Instr}
@@ -26,7 +27,11 @@ use Rattle.capture.specs.Read.{readOf, partOf}
 use Rattle.capture.specs.Write.{writtenOf as captureWritten, outOf}
 use Rattle.capture.specs.declared.read.Read.{Read}
 use Rattle.capture.specs.declared.write.Written.{Written as CaptureWritten}
-use Rattle.abi.specs.Boundary.{legalOf, rewriteOf, runAnswer, runState, runLent, reachAnswer, insideAnswer, insideState, insideLent, stepAnswer, stepState, stepLent, tellAnswer, accessAnswer, checkAnswer, writeAnswer, writeOut, Assembles, assembledAnswer, listedAnswer}
+use Rattle.srecord.specs.File.{readOf as srecordRead, memoryOf as srecordMemory}
+use Rattle.srecord.specs.Write.{writtenOf as srecordWritten, outOf as srecordOut}
+use Rattle.srecord.specs.declared.check.Verdict.{Verdict}
+use Rattle.srecord.specs.declared.write.Written.{Written as SrecordWritten}
+use Rattle.abi.specs.Boundary.{legalOf, rewriteOf, runAnswer, runState, runLent, reachAnswer, insideAnswer, insideState, insideLent, stepAnswer, stepState, stepLent, tellAnswer, accessAnswer, checkAnswer, writeAnswer, writeOut, srecReadAnswer, srecWriteAnswer, Assembles, assembledAnswer, listedAnswer}
 
 -- a contract that is an equation has one answer
 one : {A : Type 0} {x y z : A} → x ≡ z → y ≡ z → x ≡ y
@@ -85,6 +90,14 @@ capture-state-determined f r q = one
 pub capture-part-determined : (f r q : List ℕ) → r ≡ partOf f → q ≡ partOf f → r ≡ q
 capture-part-determined f r q = one
 
+pub srecord-read-determined : (m f : List ℕ) (r q : Verdict) (m′ n′ : List ℕ)
+    → (r ≡ srecordRead (length m) f) × (m′ ≡ srecordMemory m f) → (q ≡ srecordRead (length m) f) × (n′ ≡ srecordMemory m f) → (r ≡ q) × (m′ ≡ n′)
+srecord-read-determined m f r q m′ n′ = two
+
+pub srecord-write-determined : (m out : List ℕ) (r q : SrecordWritten) (o′ p′ : List ℕ)
+    → (r ≡ srecordWritten m out) × (o′ ≡ srecordOut m out) → (q ≡ srecordWritten m out) × (p′ ≡ srecordOut m out) → (r ≡ q) × (o′ ≡ p′)
+srecord-write-determined m out r q o′ p′ = two
+
 -- the C functions, whose states are bytes
 pub line-determined : (s : List ℕ) (r q : Assembled) → LineAnswer s r → LineAnswer s q → r ≡ q
 line-determined s r q a b = answer-once s r q a b
@@ -105,6 +118,14 @@ c-legal-determined w r q = one
 
 pub c-rewrite-determined : (w r q : ℕ) → r ≡ rewriteOf (decodeOf w) → q ≡ rewriteOf (decodeOf w) → r ≡ q
 c-rewrite-determined w r q = one
+
+pub c-srec-read-determined : (m f : List ℕ) (r q : ℕ) (m′ n′ : List ℕ)
+    → (r ≡ srecReadAnswer m f) × (m′ ≡ srecordMemory m f) → (q ≡ srecReadAnswer m f) × (n′ ≡ srecordMemory m f) → (r ≡ q) × (m′ ≡ n′)
+c-srec-read-determined m f r q m′ n′ = two
+
+pub c-srec-write-determined : (m out : List ℕ) (r q : ℕ) (o′ p′ : List ℕ)
+    → (r ≡ srecWriteAnswer m out) × (o′ ≡ srecordOut m out) → (q ≡ srecWriteAnswer m out) × (p′ ≡ srecordOut m out) → (r ≡ q) × (o′ ≡ p′)
+c-srec-write-determined m out r q o′ p′ = two
 
 pub c-check-determined : (f : List ℕ) (r q : ℕ) → r ≡ checkAnswer f → q ≡ checkAnswer f → r ≡ q
 c-check-determined f r q = one

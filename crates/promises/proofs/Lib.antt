@@ -12,3 +12,4 @@ pub mod Lent
 pub mod Worked
 pub mod Inside
 pub mod Lines
+pub mod Files
