@@ -9,6 +9,7 @@ mod growth;
 pub mod lines;
 mod report;
 mod runs;
+pub mod srecords;
 mod tally;
 pub mod words;
 

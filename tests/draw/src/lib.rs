@@ -1,9 +1,10 @@
-//! Random numbers, register values, instruction words and lines, drawn from a seed.
+//! Random numbers, register values, instruction words, lines and files of S-records, drawn from a seed.
 
 #![forbid(unsafe_code)]
 
 mod forms;
 mod lines;
+pub mod srecords;
 mod urn;
 
 pub use forms::{Form, FORMS, REGISTERS, SPRS};

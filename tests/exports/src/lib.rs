@@ -127,6 +127,20 @@ pub unsafe extern "C" fn ppe42_capture_write(
 /// # Safety
 /// See the top.
 #[no_mangle]
+pub unsafe extern "C" fn ppe42_srec_read(memory: *mut u8, memory_len: usize, file: *const u8, len: usize) -> u64 {
+    second::srec_read(lent_mut(memory, memory_len), lent(file, len))
+}
+
+/// # Safety
+/// See the top.
+#[no_mangle]
+pub unsafe extern "C" fn ppe42_srec_write(memory: *const u8, memory_len: usize, out: *mut u8, out_len: usize) -> u64 {
+    second::srec_write(lent(memory, memory_len), lent_mut(out, out_len))
+}
+
+/// # Safety
+/// See the top.
+#[no_mangle]
 pub unsafe extern "C" fn ppe42_assemble(line: *const u8, len: usize) -> u64 {
     second::assemble(lent(line, len))
 }

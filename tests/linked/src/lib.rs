@@ -47,6 +47,8 @@ extern "C" {
     ) -> u64;
     fn ppe42_assemble(line: *const u8, len: usize) -> u64;
     fn ppe42_disassemble(word: u32, out: *mut u8, out_len: usize) -> u64;
+    fn ppe42_srec_read(memory: *mut u8, memory_len: usize, file: *const u8, len: usize) -> u64;
+    fn ppe42_srec_write(memory: *const u8, memory_len: usize, out: *mut u8, out_len: usize) -> u64;
 }
 
 /// A function that plays a run: given state, memory, event list and budget.
@@ -84,6 +86,10 @@ pub struct Library {
     pub assemble: fn(&[u8]) -> u64,
     /// 2^32 + bytes of the word's line, + 2^33 if it leaves out a field that is not 0, 0 if illegal, or refusal * 2^48.
     pub disassemble: fn(u32, &mut [u8]) -> u64,
+    /// Refusal * 2^32 + the number of the refused line of a file of S-records.
+    pub srec_read: fn(&mut [u8], &[u8]) -> u64,
+    /// Refusal * 2^32 + bytes written.
+    pub srec_write: fn(&[u8], &mut [u8]) -> u64,
 }
 
 pub const LINKED: Library = Library {
@@ -99,6 +105,8 @@ pub const LINKED: Library = Library {
     capture_write,
     assemble,
     disassemble,
+    srec_read,
+    srec_write,
 };
 
 // SAFETY, for each call: the library touches nothing but the buffers that it is lent, within their lengths.
@@ -181,4 +189,12 @@ fn assemble(line: &[u8]) -> u64 {
 
 fn disassemble(word: u32, out: &mut [u8]) -> u64 {
     unsafe { ppe42_disassemble(word, out.as_mut_ptr(), out.len()) }
+}
+
+fn srec_read(memory: &mut [u8], file: &[u8]) -> u64 {
+    unsafe { ppe42_srec_read(memory.as_mut_ptr(), memory.len(), file.as_ptr(), file.len()) }
+}
+
+fn srec_write(memory: &[u8], out: &mut [u8]) -> u64 {
+    unsafe { ppe42_srec_write(memory.as_ptr(), memory.len(), out.as_mut_ptr(), out.len()) }
 }

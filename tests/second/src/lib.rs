@@ -12,6 +12,7 @@ mod memory;
 mod refusals;
 pub mod registers;
 mod special;
+mod srecord;
 mod step;
 mod tell;
 mod timers;
@@ -98,6 +99,19 @@ pub fn capture_check(file: &[u8]) -> u64 {
 /// Refusal * 2^32 + bytes written.
 pub fn capture_write(state: &[u8], memory: &[u8], out: &mut [u8]) -> u64 {
     answer(capture::write(state, memory, out))
+}
+
+/// Refusal * 2^32 + its line, counted from 1 and not beyond 2^32 - 1; a refusal leaves every byte as given.
+pub fn srec_read(memory: &mut [u8], file: &[u8]) -> u64 {
+    match srecord::read(memory, file) {
+        Ok(()) => 0,
+        Err((refusal, line)) => (refusal as u64) << 32 | line.min(u32::MAX as u64),
+    }
+}
+
+/// Refusal * 2^32 + bytes written.
+pub fn srec_write(memory: &[u8], out: &mut [u8]) -> u64 {
+    answer(srecord::write(memory, out))
 }
 
 /// Refusal * 2^48 + column * 2^32 + word of a line.

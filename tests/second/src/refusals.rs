@@ -11,17 +11,25 @@ pub const BAD_CAPTURE: u32 = 7;
 pub const SHORT_OUTPUT: u32 = 8;
 
 const MOST: usize = 1_048_576;
-const BLOCK: usize = 32;
+/// Memory is whole blocks.
+pub const BLOCK: usize = 32;
 const HALT_CODES: u32 = 6;
 const EVENT_VALUES: u8 = 64;
+
+pub fn check_memory(length: usize) -> Result<(), u32> {
+    if length == 0 || !length.is_multiple_of(BLOCK) || length > MOST {
+        Err(BAD_MEMORY)
+    } else {
+        Ok(())
+    }
+}
 
 /// Refusals 1, 2 and 3.
 pub fn check_core(words: &[u32; WORDS], memory_length: usize) -> Result<(), u32> {
     let [.., iar, halt] = *words;
     let reserved = words[GPRS.len()..].iter().zip(OTHERS).any(|(word, (_, defined))| word & !defined != 0);
-    if memory_length == 0 || !memory_length.is_multiple_of(BLOCK) || memory_length > MOST {
-        Err(BAD_MEMORY)
-    } else if !iar.is_multiple_of(4) {
+    check_memory(memory_length)?;
+    if !iar.is_multiple_of(4) {
         Err(BAD_IAR)
     } else if reserved || halt >= HALT_CODES {
         Err(RESERVED_BIT)
