@@ -3,11 +3,11 @@
 use clap::{Args, Parser, Subcommand};
 use std::path::PathBuf;
 
-/// The everyday bench: captures of a PPE 42 core made, shown, listed, run, traced and compared, and lines assembled, by the
-/// proved library.
+/// The everyday bench: captures of a PPE 42 core made, shown, listed, run, traced, compared and written as S-records, and
+/// lines assembled, by the proved library.
 ///
 /// Steps are numbered from 0. Addresses and words are in hex, sizes and counts decimal (K, M and G are thousands). Exit
-/// status: 0 all is well; 1 not as expected, a difference, words that the core lacks, or a line that was refused; 2 the
+/// status: 0 all is well; 1 not as expected, a difference, words that the core lacks, or a line that asm refused; 2 the
 /// input is wrong, and an old output is as it was. docs/CORE.md says what captures, event bytes, halt codes and refusals are.
 #[derive(Parser)]
 #[command(name = "ppe42", bin_name = "./ppe42", disable_help_subcommand = true)]
@@ -18,7 +18,7 @@ pub struct Command {
 
 #[derive(Subcommand)]
 pub enum What {
-    /// Firmware, an ELF or a raw binary, to a capture; names the words that the core lacks
+    /// Firmware, an ELF, S-records or a raw binary, to a capture; names the words of an ELF that the core lacks
     Make(Make),
     /// Registers by name, what MSR and DBCR mean, and memory
     Show(Show),
@@ -33,6 +33,11 @@ pub enum What {
     Trace(Trace),
     /// Registers and memory that differ, old and new
     Diff(Diff),
+    /// The memory of a capture as S-records
+    ///
+    /// A line for each 32 bytes, of type S3, and the end, an S7 of address 0. Registers have no place in S-records; make
+    /// reads the file back, with --set for registers.
+    Srec(Srec),
     /// Lines of assembly to words
     ///
     /// A line is as the manual writes it in 9.4: the mnemonic, one space, the operands with commas and no blanks between
@@ -44,7 +49,7 @@ pub enum What {
 
 #[derive(Args)]
 pub struct Make {
-    /// An ELF for 32-bit PowerPC, or a raw binary that begins at address 0
+    /// An ELF for 32-bit PowerPC, S-records (any file of text), or a raw binary that begins at address 0
     pub firmware: PathBuf,
     /// The capture to write
     #[arg(short, long, value_name = "CAPTURE")]
@@ -52,7 +57,7 @@ pub struct Make {
     /// Bytes of memory to lend: a multiple of 32, at most 1048576
     #[arg(long, value_name = "BYTES")]
     pub memory: String,
-    /// A register's start; all are 0 but IAR, which has the ELF's entry
+    /// A register's start; all are 0 but IAR, which has the ELF's entry, or the address of the end of S-records
     #[arg(long, value_name = "NAME=HEX")]
     pub set: Vec<String>,
     /// Write the capture even if the core lacks words of the firmware
@@ -149,6 +154,15 @@ pub struct Diff {
     pub before: PathBuf,
     /// The new one
     pub after: PathBuf,
+}
+
+#[derive(Args)]
+pub struct Srec {
+    /// The capture whose memory is written
+    pub capture: PathBuf,
+    /// The file of S-records to write
+    #[arg(short, long, value_name = "FILE")]
+    pub out: PathBuf,
 }
 
 #[derive(Args)]

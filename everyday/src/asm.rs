@@ -1,6 +1,7 @@
 //! `asm`: lines of assembly to words.
 
 use crate::args::Asm;
+use crate::excerpt;
 use crate::files;
 use crate::library::{self, Refused};
 use crate::wanted;
@@ -11,10 +12,6 @@ use std::process::ExitCode;
 
 /// Bytes of a line that are kept; what the library answers to a longer one does not hang on the rest.
 const KEPT: usize = 65_536;
-
-/// Letters of a line that are shown at most, and of them those before the column.
-const SHOWN: usize = 80;
-const BEFORE: usize = 60;
 
 const WHAT: &str = "a file of lines";
 
@@ -91,33 +88,9 @@ fn is_blank(line: &[u8]) -> bool {
     line.len() < KEPT && line.iter().all(|byte| b" \t".contains(byte))
 }
 
-/// Column, number, what is wrong, the line and a caret under the column.
+/// Column, number, what is wrong, and the line with a caret under the column.
 fn shown(line: &[u8], refused: Refused) -> String {
     let (column, number) = (refused.column, refused.refusal);
-    let from = column - fitting(line[..column].iter().rev(), BEFORE);
-    let before = format!("{}{}", if from > 0 { ".." } else { "" }, readable(&line[from..column]));
-    let to = column + fitting(line[column..].iter(), SHOWN - before.len());
-    let after = format!("{}{}", readable(&line[column..to]), if to < line.len() { ".." } else { "" });
-    let blanks = " ".repeat(before.len());
     let why = wanted::sentence(line, refused);
-    format!("column {column}: refusal {number}: {why}\n  {before}{after}\n  {blanks}^")
-}
-
-/// How many of these bytes have room in so many letters.
-fn fitting<'a>(bytes: impl Iterator<Item = &'a u8>, room: usize) -> usize {
-    let mut letters = 0;
-    let fits = |byte: &&u8| {
-        letters += readable(&[**byte]).len();
-        letters <= room
-    };
-    bytes.take_while(fits).count()
-}
-
-/// Bytes as they can be shown in a line.
-fn readable(bytes: &[u8]) -> String {
-    let shown = |&byte: &u8| match byte {
-        b' '..=b'~' => char::from(byte).to_string(),
-        _ => byte.escape_ascii().to_string(),
-    };
-    bytes.iter().map(shown).collect()
+    format!("column {column}: refusal {number}: {why}\n{}", excerpt::pointed(line, column))
 }

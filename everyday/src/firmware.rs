@@ -1,6 +1,7 @@
-//! Firmware into memory: an ELF for 32-bit PowerPC, or a raw binary that begins at address 0.
+//! Firmware into memory: an ELF for 32-bit PowerPC, S-records, or a raw binary that begins at address 0.
 
 use crate::library::{self, BLOCK, MOST};
+use crate::srecords;
 use crate::symbols::{readable, Symbol, Symbols};
 use object::elf::{
     FileHeader32, ProgramHeader32, EM_PPC, ET_EXEC, PF_X, PT_LOAD, SHF_ALLOC, SHF_EXECINSTR, SHT_NOBITS,
@@ -16,23 +17,42 @@ pub struct Firmware {
     pub memory: Vec<u8>,
     pub entry: u32,
     pub symbols: Symbols,
-    /// Where an ELF has code: first address and words. A raw binary tells nothing of it.
-    pub code: Option<Vec<(u32, Vec<u32>)>>,
+    pub code: Code,
+}
+
+/// Where the code is.
+pub enum Code {
+    /// First addresses and words.
+    Known(Vec<(u32, Vec<u32>)>),
+    /// The file does not tell; what it is, and that its words are not checked.
+    Untold(&'static str),
 }
 
 pub fn is_elf(file: &[u8]) -> bool {
     file.starts_with(b"\x7FELF")
 }
 
-pub fn load(file: &[u8], lent: usize) -> Result<Firmware, String> {
+/// The firmware that a file of this name is.
+pub fn load(name: &str, file: &[u8], lent: usize) -> Result<Firmware, String> {
+    let of_file = |wrong: String| format!("{name}: {wrong}");
     if library::capture_check(file).is_ok() {
-        return Err("it is a capture already; ./ppe42 run plays it, with --set for other registers".into());
+        return Err(of_file("it is a capture already; ./ppe42 run plays it, with --set for other registers".into()));
     }
     if is_elf(file) {
-        load_elf(file, lent)
+        load_elf(file, lent).map_err(of_file)
+    } else if srecords::is_meant(file) {
+        load_records(file, lent).map_err(|wrong| format!("{name}, {wrong}"))
     } else {
-        load_raw(file, lent)
+        load_raw(file, lent).map_err(of_file)
     }
+}
+
+/// What is wrong begins with the line's number.
+fn load_records(file: &[u8], lent: usize) -> Result<Firmware, String> {
+    let mut memory = vec![0; lent];
+    library::srec_read(&mut memory, file).map_err(|refused| srecords::sentence(file, lent, refused))?;
+    let code = Code::Untold("S-records: their words are not checked");
+    Ok(Firmware { memory, entry: srecords::entry(file), symbols: Symbols::default(), code })
 }
 
 fn load_raw(file: &[u8], lent: usize) -> Result<Firmware, String> {
@@ -44,18 +64,19 @@ fn load_raw(file: &[u8], lent: usize) -> Result<Firmware, String> {
     }
     let mut memory = file.to_vec();
     memory.resize(lent, 0);
-    Ok(Firmware { memory, entry: 0, symbols: Symbols::default(), code: None })
+    let code = Code::Untold("a raw binary: its words are not checked");
+    Ok(Firmware { memory, entry: 0, symbols: Symbols::default(), code })
 }
 
 /// What to do where so many bytes are wanted.
-fn more(bytes: u64) -> String {
+pub fn more(bytes: u64) -> String {
     match bytes.next_multiple_of(BLOCK as u64) {
         more if more <= MOST as u64 => format!("lend more, as with --memory {more}"),
         _ => format!("make it smaller or link it lower: {MOST} bytes are the most that can be lent"),
     }
 }
 
-fn load_elf(file: &[u8], lent: usize) -> Result<Firmware, String> {
+pub fn load_elf(file: &[u8], lent: usize) -> Result<Firmware, String> {
     let header = header(file)?;
     let segments = loaded(header, file)?;
     let mut memory = vec![0; lent];
@@ -80,7 +101,7 @@ fn load_elf(file: &[u8], lent: usize) -> Result<Firmware, String> {
             "nothing is loaded at its entry {entry:08X}; link it again, with load addresses as it runs"
         ));
     }
-    Ok(Firmware { memory, entry, symbols: symbols_of(header, file)?, code: Some(code(header, file)?) })
+    Ok(Firmware { memory, entry, symbols: symbols_of(header, file)?, code: Code::Known(code(header, file)?) })
 }
 
 /// The segments that are put into memory, none over another.

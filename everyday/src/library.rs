@@ -12,6 +12,9 @@ pub const MOST: usize = 1_048_576;
 /// Most bytes of a line of assembly, and of one that a word is written as.
 pub const MOST_LINE: usize = 256;
 const WRITTEN: usize = 64;
+/// Bytes of the S-record of a block of memory, and of the one that ends a file.
+const RECORD: usize = 79;
+const END_RECORD: usize = 15;
 
 extern "C" {
     fn ppe42_run(
@@ -53,6 +56,8 @@ extern "C" {
         out: *mut u8,
         out_len: usize,
     ) -> u64;
+    fn ppe42_srec_read(memory: *mut u8, memory_len: usize, file: *const u8, len: usize) -> u64;
+    fn ppe42_srec_write(memory: *const u8, memory_len: usize, out: *mut u8, out_len: usize) -> u64;
     fn ppe42_legal(word: u32) -> u32;
     fn ppe42_assemble(line: *const u8, len: usize) -> u64;
     fn ppe42_disassemble(word: u32, out: *mut u8, out_len: usize) -> u64;
@@ -109,6 +114,13 @@ pub struct Access {
 pub struct Refused {
     pub refusal: Refusal,
     pub column: usize,
+}
+
+/// A file of S-records that was not read: why, and for which line of it, from 1.
+#[derive(Clone, Copy, Debug, PartialEq)]
+pub struct RefusedLine {
+    pub refusal: Refusal,
+    pub line: usize,
 }
 
 /// A word as a line of assembly.
@@ -219,6 +231,21 @@ pub fn capture_write(state: &State, memory: &[u8]) -> Result<Vec<u8>, Refusal> {
         ppe42_capture_write(state.0.as_ptr(), state.0.len(), memory.as_ptr(), memory.len(), out.as_mut_ptr(), out.len())
     };
     accepted(answer).map(|_| out)
+}
+
+/// S-records into memory, all of them or none.
+pub fn srec_read(memory: &mut [u8], file: &[u8]) -> Result<(), RefusedLine> {
+    let answer = unsafe { ppe42_srec_read(memory.as_mut_ptr(), memory.len(), file.as_ptr(), file.len()) };
+    match (answer >> 32) as u32 {
+        0 => Ok(()),
+        refusal => Err(RefusedLine { refusal, line: answer as u32 as usize }),
+    }
+}
+
+/// Memory as a file of S-records.
+pub fn srec_write(memory: &[u8]) -> Result<Vec<u8>, Refusal> {
+    let mut out = vec![0; memory.len() / BLOCK * RECORD + END_RECORD];
+    accepted(unsafe { ppe42_srec_write(memory.as_ptr(), memory.len(), out.as_mut_ptr(), out.len()) }).map(|_| out)
 }
 
 /// The refusal that a run from here gives: one of no steps is checked and changes nothing.

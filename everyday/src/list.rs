@@ -61,7 +61,7 @@ fn read(args: &List) -> Result<Listed, String> {
 }
 
 fn read_elf(file: &[u8]) -> Result<Listed, String> {
-    let firmware = firmware::load(file, MOST)?;
+    let firmware = firmware::load_elf(file, MOST)?;
     let mut spans = firmware::parts(file)?;
     spans.sort_unstable();
     let mut parts: Vec<(usize, usize)> = Vec::new();

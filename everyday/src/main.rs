@@ -2,7 +2,7 @@
 
 use clap::Parser;
 use everyday::args::{Command, What};
-use everyday::{asm, complain, diff, list, make, run, show, trace};
+use everyday::{asm, complain, diff, list, make, run, show, srec, trace};
 use std::process::ExitCode;
 
 fn main() -> ExitCode {
@@ -13,6 +13,7 @@ fn main() -> ExitCode {
         What::Run(args) => run::run(&args),
         What::Trace(args) => trace::trace(&args),
         What::Diff(args) => diff::diff(&args),
+        What::Srec(args) => srec::srec(&args),
         What::Asm(args) => asm::asm(&args),
     };
     done.unwrap_or_else(|wrong| {

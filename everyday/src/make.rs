@@ -3,7 +3,7 @@
 use crate::args::Make;
 use crate::capture::Capture;
 use crate::files::{self, MOST_FIRMWARE};
-use crate::firmware::{self, Firmware};
+use crate::firmware::{self, Code, Firmware};
 use crate::library::{BLOCK, MOST};
 use crate::numbers;
 use crate::registers::{State, IAR};
@@ -19,10 +19,10 @@ pub fn make(args: &Make) -> Result<ExitCode, String> {
         return Err(format!("{} is the firmware itself; name another capture", args.out.display()));
     }
     let file = files::read(&args.firmware, MOST_FIRMWARE, "a firmware")?;
-    let firmware = firmware::load(&file, lent).map_err(|wrong| format!("{}: {wrong}", args.firmware.display()))?;
+    let firmware = firmware::load(&args.firmware.display().to_string(), &file, lent)?;
     let mut capture = Capture { state: State::zero(), memory: firmware.memory.clone() };
     capture.state.put(IAR, firmware.entry);
-    capture.set(&args.set)?;
+    capture.set(&args.set).map_err(|wrong| with_entry(wrong, firmware.entry))?;
     if tell_lacking(&firmware) && !args.anyway {
         complain!("no capture was written; write the firmware without these (docs/FIRMWARE.md), or add --anyway");
         return Ok(ExitCode::from(1));
@@ -30,6 +30,14 @@ pub fn make(args: &Make) -> Result<ExitCode, String> {
     capture.write(&args.out)?;
     say!("wrote {}: memory {lent} bytes, IAR {}", args.out.display(), firmware.symbols.place(capture.state.get(IAR)));
     Ok(ExitCode::SUCCESS)
+}
+
+/// What is wrong, with where an IAR that no run accepts came from; of the firmwares S-records alone can have one.
+fn with_entry(wrong: String, entry: u32) -> String {
+    match entry % 4 {
+        0 => wrong,
+        _ => format!("{wrong} (the end record has the address {entry:08X}; --set IAR=HEX gives another)"),
+    }
 }
 
 fn lent(text: &str) -> Result<usize, String> {
@@ -42,9 +50,12 @@ fn lent(text: &str) -> Result<usize, String> {
 
 /// Names the words of the code that the core lacks; whether there are any.
 fn tell_lacking(firmware: &Firmware) -> bool {
-    let Some(code) = &firmware.code else {
-        say!("a raw binary: its words are not checked");
-        return false;
+    let code = match &firmware.code {
+        Code::Known(code) => code,
+        Code::Untold(what) => {
+            say!("{what}");
+            return false;
+        }
     };
     let (words, lacking) = firmware::lacking(code, &firmware.symbols);
     for lacking in lacking.iter().take(NAMED) {

@@ -3,6 +3,7 @@
 use crate::firmware;
 use crate::library::{Refusal, BLOCK, MOST, STATE, TRAILER};
 use crate::registers::{State, HALT, IAR, MOST_HALT, REGISTERS};
+use crate::srecords;
 
 /// Of a state and a memory that a run refuses.
 pub fn of_start(refusal: Refusal, state: &State, memory: usize) -> String {
@@ -11,6 +12,18 @@ pub fn of_start(refusal: Refusal, state: &State, memory: usize) -> String {
         2 => format!("refusal 2: IAR is {:08X}; give it a multiple of 4", state.get(IAR)),
         3 => format!("refusal 3: {}", reserved(state)),
         _ => format!("refusal {refusal}: docs/CORE.md says what that is"),
+    }
+}
+
+/// Of a line of S-records, as far as the number alone tells it.
+pub fn of_record(refusal: Refusal) -> &'static str {
+    match refusal {
+        13 => "the line is no record, has a wrong check byte, is of another type than the data, or follows the end",
+        14 => "it has a byte for an address outside the memory",
+        15 => "it names a byte that an earlier line has named",
+        16 => "there is no end record, or not the one that the data records want",
+        17 => "its count is not that of the data records before it",
+        _ => "docs/CORE.md says what that is",
     }
 }
 
@@ -33,6 +46,9 @@ fn not_a_capture(file: &[u8]) -> String {
     let length = file.len();
     if firmware::is_elf(file) {
         return "it is an ELF; ./ppe42 make makes a capture of it".into();
+    }
+    if srecords::is_surely(file) {
+        return "it is a file of S-records; ./ppe42 make makes a capture of it".into();
     }
     if length < BLOCK + TRAILER {
         let least = BLOCK + TRAILER;

@@ -1,5 +1,5 @@
-//! Two hundred mutilated inputs, and a hundred of lines to assemble: the program ends by itself, with a status of its own and a
-//! sentence where it is not content.
+//! Two hundred mutilated inputs, four hundred of S-records, and a hundred of lines to assemble: the program ends by itself, with
+//! a status of its own and a sentence where it is not content.
 
 mod common;
 
@@ -41,8 +41,24 @@ fn mutilate(bytes: &[u8], draw: &mut Draw) -> Vec<u8> {
     bytes
 }
 
-/// Whether the program was content.
-fn plays(folder: &Path, arguments: &[&str]) -> bool {
+/// Lines taken out, doubled or put elsewhere, and letters changed.
+fn mutilate_lines(bytes: &[u8], draw: &mut Draw) -> Vec<u8> {
+    let mut lines: Vec<Vec<u8>> = bytes.split_inclusive(|&byte| byte == b'\n').map(Vec::from).collect();
+    for _ in 0..1 + draw.below(3) {
+        let (k, other) = (draw.below(lines.len()), draw.below(lines.len()));
+        let column = draw.below(lines[k].len());
+        match draw.below(4) {
+            0 => drop(lines.remove(k)),
+            1 => lines.insert(other, lines[k].clone()),
+            2 => lines.swap(k, other),
+            _ => lines[k][column] = b"0123456789ABCDEFfsS \r\n"[draw.below(22)],
+        }
+    }
+    lines.concat()
+}
+
+/// The exit status.
+fn plays(folder: &Path, arguments: &[&str]) -> i32 {
     let output = ppe42(folder, arguments);
     let said = text(&output.stderr);
     match output.status.code() {
@@ -53,7 +69,7 @@ fn plays(folder: &Path, arguments: &[&str]) -> bool {
     let is_2 = output.status.code() == Some(2);
     assert!(!(is_2 && folder.join("out.capture").exists()), "{arguments:?} wrote a file all the same");
     let _ = fs::remove_file(folder.join("out.capture"));
-    output.status.success()
+    output.status.code().unwrap_or_default()
 }
 
 #[test]
@@ -70,11 +86,12 @@ fn mutilated_inputs() {
         fs::write(folder.join("bad.elf"), mutilate(&elf, &mut draw)).unwrap();
         fs::write(folder.join("bad.capture"), mutilate(&capture, &mut draw)).unwrap();
         fs::write(folder.join("bad.txt"), mutilate(events, &mut draw)).unwrap();
-        let fourth: &[&str] = match draw.below(5) {
+        let fourth: &[&str] = match draw.below(6) {
             0 => &["run", "bad.capture", "--out", "out.capture", "--steps", "100000"],
             1 => &["show", "bad.capture", "--memory", "0..20"],
             2 => &["list", "bad.capture", "--elf", "bad.elf"],
             3 => &["list", "bad.elf"],
+            4 => &["srec", "bad.capture", "--out", "out.capture"],
             _ => &["diff", "ledger.capture", "bad.capture"],
         };
         let plays = [
@@ -86,9 +103,29 @@ fn mutilated_inputs() {
             ),
             plays(&folder, fourth),
         ];
-        taken += plays.iter().filter(|&&content| content).count();
+        taken += plays.iter().filter(|&&status| status == 0).count();
     }
     assert!((20..180).contains(&taken), "{taken} of 200 were taken: they are not mutilated enough, or too much");
+}
+
+/// S-records as the stock tools and as the program itself write them: a capture comes of them, or a sentence and no file.
+#[test]
+fn mutilated_records() {
+    let folder = folder("mutilated_records");
+    content(ppe42(&folder, &["make", "ledger.elf", "-o", "ledger.capture", "--memory", "512"]));
+    content(ppe42(&folder, &["srec", "ledger.capture", "-o", "own.srec"]));
+    let files = ["ledger.srec", "own.srec"].map(|name| fs::read(folder.join(name)).unwrap());
+    let mut draw = Draw(0x9E37_79B9_7F4A_7C15);
+    let mut taken = 0;
+    for k in 0..400 {
+        let good = &files[k % 2];
+        let bad = if k % 4 < 2 { mutilate(good, &mut draw) } else { mutilate_lines(good, &mut draw) };
+        fs::write(folder.join("bad.srec"), &bad).unwrap();
+        let status = plays(&folder, &["make", "bad.srec", "-o", "out.capture", "--memory", "512"]);
+        assert!(status != 1, "{}", String::from_utf8_lossy(&bad));
+        taken += usize::from(status == 0);
+    }
+    assert!((20..200).contains(&taken), "{taken} of 400 were taken: they are not mutilated enough, or too much");
 }
 
 /// Good lines that were mutilated, and bytes that were never lines: each line that is not blank gets its word, or its refusal.

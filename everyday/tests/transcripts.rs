@@ -84,6 +84,11 @@ fn context() {
 }
 
 #[test]
+fn srec() {
+    transcript("srec");
+}
+
+#[test]
 fn asm() {
     transcript("asm");
 }

@@ -19,7 +19,7 @@ pub fn root() -> PathBuf {
     Path::new(env!("CARGO_MANIFEST_DIR")).parent().expect("everyday/ stands in the repository").into()
 }
 
-/// The folder with an ELF of each firmware and lacks.elf, compiled once.
+/// The folder with an ELF and S-records of each firmware and lacks.elf, compiled once.
 pub fn firmware() -> &'static Path {
     static BUILT: OnceLock<PathBuf> = OnceLock::new();
     BUILT.get_or_init(|| {
@@ -43,9 +43,9 @@ pub fn folder(name: &str) -> PathBuf {
     let folder = Path::new(env!("CARGO_TARGET_TMPDIR")).join(name);
     let _ = fs::remove_dir_all(&folder);
     fs::create_dir_all(&folder).expect("a folder for the test");
-    for name in FIRMWARE.iter().map(|(name, _)| *name).chain(["lacks"]) {
-        let elf = format!("{name}.elf");
-        fs::copy(firmware().join(&elf), folder.join(&elf)).expect("the firmware is there");
+    let built = FIRMWARE.iter().flat_map(|(name, _)| [format!("{name}.elf"), format!("{name}.srec")]);
+    for file in built.chain(["lacks.elf".into()]) {
+        fs::copy(firmware().join(&file), folder.join(&file)).expect("the firmware is there");
     }
     folder
 }
