@@ -9,7 +9,7 @@ use Rattle.memory.specs.Access.{sizedOf}
 use Rattle.memory.specs.Store.{bytesOf}
 use Rattle.asm.specs.Text.{bytes}
 use Rattle.machine.specs.declared.refusal.Refusal.{Refusal}
-use Rattle.srecord.specs.Hex.{digitOf, joined, pairAt, bytesAt, allBytes, sumOf, numberFrom}
+use Rattle.srecord.specs.Hex.{letterOf, digitOf, joined, pairAt, bytesAt, allBytes, sumOf, numberFrom}
 use Rattle.srecord.specs.Record.{linesOf, widthOf, endsAt, roomFor, headedAt, formedAt, heldAt, recordAt}
 use Rattle.srecord.specs.File.{places, isIn, anyIn, dataRefusal, endRefusal, countRefusal, recordRefusal, lineRefusal, after, afterLine, refusedAt, good, verdict, put, placed, readOf, memoryOf}
 use Rattle.srecord.specs.Write.{hexDigit, hexes, checkOf, textOf, blockText, endText, blocks, fileOf}
@@ -77,12 +77,12 @@ files =
     ∷ []
 
 pub files-hold : map computed files ≡ map printed files
-unfolding bytes digitOf joined pairAt bytesAt allBytes sumOf numberFrom linesOf widthOf endsAt roomFor headedAt formedAt heldAt recordAt places isIn anyIn dataRefusal endRefusal countRefusal recordRefusal lineRefusal after afterLine verdict sizedOf readOf
+unfolding bytes letterOf digitOf joined pairAt bytesAt allBytes sumOf numberFrom linesOf widthOf endsAt roomFor headedAt formedAt heldAt recordAt places isIn anyIn dataRefusal endRefusal countRefusal recordRefusal lineRefusal after afterLine verdict sizedOf readOf
 files-hold = refl
 
 -- three bytes at address 4, and the others as they were
 pub file-stored : memoryOf (replicate 32 0xEE) (lf "S10600040102AB47" ++ lf "S9030000FC") ≡ replicate 4 0xEE ++ (1 ∷ 2 ∷ 0xAB ∷ []) ++ replicate 25 0xEE
-unfolding bytes digitOf joined pairAt bytesAt allBytes sumOf numberFrom linesOf widthOf endsAt roomFor headedAt formedAt heldAt recordAt places isIn anyIn dataRefusal endRefusal countRefusal recordRefusal lineRefusal after afterLine verdict put placed sizedOf readOf memoryOf
+unfolding bytes letterOf digitOf joined pairAt bytesAt allBytes sumOf numberFrom linesOf widthOf endsAt roomFor headedAt formedAt heldAt recordAt places isIn anyIn dataRefusal endRefusal countRefusal recordRefusal lineRefusal after afterLine verdict put placed sizedOf readOf memoryOf
 file-stored = refl
 
 -- 32 bytes of memory, the first a branch to itself, as a file

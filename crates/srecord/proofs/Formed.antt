@@ -8,7 +8,7 @@ use lib.Dec.{ltb, leb, eqb, lit≤}
 use lib.ListN.{length, getD, List·getD-eq-default}
 use borrow.Author.Tests.{ltb-true, leb-true, eqb-true, eqb-false, ne-eqb, not-true}
 use Rattle.memory.specs.Access.{pick}
-use Rattle.srecord.specs.Hex.{digitOf, joined, pairAt, bytesAt, allBytes, sumOf}
+use Rattle.srecord.specs.Hex.{letterOf, digitOf, joined, pairAt, bytesAt, allBytes, sumOf}
 use Rattle.srecord.specs.Record.{widths, widthOf, roomFor, endsAt, headedAt, formedAt}
 use Rattle.word.proofs.Truth.{never, and-true}
 use Rattle.word.proofs.Laws.{split}
@@ -55,7 +55,7 @@ unfolding widthOf
 width-out t h = List·getD-eq-default widths 0 {n = t} h
 
 pub pair-outside : (p : ℕ) (f : List ℕ) → length f < p + 2 → pairAt f p ≡ 256
-unfolding pairAt joined digitOf
+unfolding pairAt joined letterOf digitOf
 pair-outside p f h =
     let l : length f ≤ p + 1 = omega arith in
     rw (List·getD-eq-default f 0 {n = p + 1} l, and-no)

@@ -7,7 +7,7 @@ use mathlib.Core.List.{List, _∷_, _++_}
 use lib.Dec.{ltb, leb, eqb}
 use lib.ListN.{length, getD, drop, drop-of-length-le}
 use lib.Seq.{sets}
-use borrow.Author.Tests.{ltb-true, lt-leb, le-leb, leb-true, eq-eqb, ne-eqb, not-true}
+use borrow.Author.Tests.{lt-leb, le-leb, leb-true, eq-eqb, ne-eqb, not-true}
 use Rattle.memory.specs.Access.{pick}
 use Rattle.srecord.specs.Hex.{digitOf, joined, pairAt, bytesAt, allBytes, numberFrom}
 use Rattle.srecord.specs.Record.{malformed, holds, isData, linesOf, formedAt, heldAt, recordAt, recordOf, widthOf}
@@ -22,7 +22,7 @@ use Rattle.srecord.specs.Named.{StandsFor}
 use Rattle.srecord.specs.Judged.{seenOf}
 use Rattle.srecord.specs.declared.check.Sofar.{Sofar}
 use Rattle.srecord.specs.declared.check.Verdict.{Verdict}
-use Rattle.srecord.proofs.Spelt.{number-two, number-three, number-four}
+use Rattle.srecord.proofs.Spelt.{both-digits, number-two, number-three, number-four}
 use Rattle.word.proofs.Laws.{split}
 use Rattle.srecord.proofs.Formed.{decide, bytes-length, formed-is, formed-stands}
 use Rattle.srecord.proofs.Lines.{first-at}
@@ -175,9 +175,7 @@ pair-le : (p : ℕ) (f : List ℕ) → pairAt f p ≤ 256
 unfolding pairAt joined
 pair-le p f =
     decide (ltb (digitOf (getD f p 0)) 16 && ltb (digitOf (getD f (p + 1) 0)) 16)
-    (λ e.
-    let q = and-true (ltb (digitOf (getD f p 0)) 16) (ltb (digitOf (getD f (p + 1) 0)) 16) e in
-    rw e (omega (arith, ltb-true (digitOf (getD f p 0)) 16 (q .0), ltb-true (digitOf (getD f (p + 1) 0)) 16 (q .1))))
+    (λ e. rw e (omega (arith, both-digits (digitOf (getD f p 0)) (digitOf (getD f (p + 1) 0)) e)))
     (λ e. rw e (omega arith))
 
 number-le : (w p : ℕ) (f : List ℕ) → 2 ≤ w → w ≤ 4 → numberFrom 0 (bytesAt w f p) ≤ 4311810304

@@ -11,7 +11,7 @@ use lib.ListN.{length, getD, take, drop, length-drop, List·getD-eq-default}
 use lib.Seq.{getD-drop, getD-take, take-all, drop-drop}
 use borrow.Author.Tests.{ltb-true, eqb-true, eqb-false, eq-eqb}
 use Rattle.memory.specs.Access.{pick}
-use Rattle.srecord.specs.Hex.{digitOf, joined, pairAt, bytesAt, allBytes}
+use Rattle.srecord.specs.Hex.{letterOf, digitOf, joined, pairAt, bytesAt, allBytes}
 use Rattle.srecord.specs.Record.{holds, linesOf, widthOf, endsAt, headedAt, formedAt, heldAt, recordAt, recordOf}
 use Rattle.srecord.specs.Found.{lineEnd, nextAt}
 use Rattle.word.proofs.Truth.{and-true}
@@ -102,7 +102,7 @@ record-shift i f = rw (formed-shift i f, pair-shift i 2 f, getD-drop i f 1 0, he
 
 -- no digit is a line feed
 pair-feed : (m j : ℕ) (x : List ℕ) → getD x j 0 ≡ 10 → m ≤ j → j ≤ m + 1 → pairAt x m ≡ 256
-unfolding pairAt joined digitOf
+unfolding pairAt joined letterOf digitOf
 pair-feed m j x h l u =
     split m j
     (λ s. let e : j ≡ m + 1 = omega arith in rw (rw e at h, and-no))

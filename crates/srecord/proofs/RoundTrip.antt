@@ -9,7 +9,7 @@ use lib.ListN.{length, getD, take, drop, length-append, length-drop}
 use lib.Seq.{sets, sets-eq, length-sets, getD-drop, drop-drop, drop-at, take-at, take-add, take-all, length-take-le}
 use borrow.Author.Tests.{lt-ltb, le-leb, eq-eqb, ne-eqb, ltb-true, eqb-true}
 use Rattle.memory.specs.Access.{pick}
-use Rattle.srecord.specs.Hex.{digitOf, joined, pairAt, bytesAt, allBytes, sumOf, numberFrom}
+use Rattle.srecord.specs.Hex.{letterOf, digitOf, joined, pairAt, bytesAt, allBytes, sumOf, numberFrom}
 use Rattle.srecord.specs.Record.{isData, widthOf, roomFor, linesOf, headedAt, formedAt, endsAt}
 use Rattle.srecord.specs.Found.{kindAt, addressAt, dataAt, sizeAt, lineEnd, nextAt}
 use Rattle.memory.specs.Access.{sizedOf}
@@ -30,7 +30,7 @@ use Rattle.srecord.proofs.Answer.{read-sized, read-good}
 
 -- a digit that was written is read
 digit-back : (v : ℕ) → v < 16 → digitOf (hexDigit v) ≡ v
-unfolding digitOf hexDigit
+unfolding letterOf digitOf hexDigit
 digit-back v h = same-at (λ i v. digitOf (hexDigit v)) (λ i v. v) 1 16 tt 0 v (lit≤ tt) h
 
 pair-back : (b : ℕ) (zs : List ℕ) → b < 256 → pairAt (hexDigit (b / 16) ∷ hexDigit (b % 16) ∷ zs) 0 ≡ b

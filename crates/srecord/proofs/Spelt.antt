@@ -1,18 +1,53 @@
 -- Laws of bytes spelt in hex. Assumes nothing.
-use Prim.Native.Nat.{ℕ, zero, suc, _+_, _*_, _-_, _≤_, _<_}
+use Prim.Native.Nat.{ℕ, zero, suc, _+_, _*_, _-_, _%_, _≤_, _<_}
 use native.Mathlib.Omega.{arith}
 use native.Mathlib.Nat.{add-assoc, zero-add}
-use mathlib.Core.Bool.{true}
+use mathlib.Core.Bool.{true, _&&_}
 use mathlib.Core.Path.{_≡_}
 use mathlib.Core.List.{List, _∷_}
-use lib.Dec.{ltb}
+use lib.Bits.{bitOr}
+use lib.Dec.{ltb, lit≤}
 use lib.ListN.{set}
 use lib.Seq.{sets}
 use native.Mathlib.Numerals.{add-one}
 use Rattle.word.proofs.Truth.{and-true}
+use Rattle.word.proofs.Below.{same-at}
 use borrow.Author.Tests.{lt-ltb, le-ltb, ltb-true}
 use Rattle.memory.specs.Access.{pick}
-use Rattle.srecord.specs.Hex.{pairAt, bytesAt, allBytes, sumOf, numberFrom}
+use Rattle.srecord.specs.Hex.{letterOf, digitOf, pairAt, bytesAt, allBytes, sumOf, numberFrom}
+
+-- the code's value of a letter and of a digit, at all 256 characters
+abbrev letterFrom : ℕ → ℕ
+letterFrom p = pick (ltb p 6) (p + 10) 16
+
+abbrev letterAt : ℕ → ℕ
+letterAt c = (bitOr c 32 + 159) % 256
+
+abbrev digitAt : ℕ → ℕ
+digitAt c = (c + 208) % 256
+
+letters : (c : ℕ) → c < 256 → letterFrom (letterAt c) ≡ letterOf c
+unfolding letterOf
+letters c h = same-at (λ i c. letterFrom (letterAt c)) (λ i c. letterOf c) 1 256 tt 0 c (lit≤ tt) h
+
+pub letter-yes : (c : ℕ) → c < 256 → (bitOr c 32 + 159) % 256 < 6 → (bitOr c 32 + 159) % 256 + 10 ≡ letterOf c
+letter-yes c h l = rw (lt-ltb (letterAt c) 6 l) at (letters c h)
+
+pub letter-no : (c : ℕ) → c < 256 → 6 ≤ (bitOr c 32 + 159) % 256 → 16 ≡ letterOf c
+letter-no c h l = rw (le-ltb (letterAt c) 6 l) at (letters c h)
+
+digits : (c : ℕ) → c < 256 → pick (ltb (digitAt c) 10) (digitAt c) (letterOf c) ≡ digitOf c
+unfolding digitOf letterOf
+digits c h = same-at (λ i c. pick (ltb (digitAt c) 10) (digitAt c) (letterOf c)) (λ i c. digitOf c) 1 256 tt 0 c (lit≤ tt) h
+
+pub digit-yes : (c : ℕ) → c < 256 → (c + 208) % 256 < 10 → (c + 208) % 256 ≡ digitOf c
+digit-yes c h l = rw (lt-ltb (digitAt c) 10 l) at (digits c h)
+
+pub digit-no : (c : ℕ) → c < 256 → 10 ≤ (c + 208) % 256 → letterOf c ≡ digitOf c
+digit-no c h l = rw (le-ltb (digitAt c) 10 l) at (digits c h)
+
+pub both-digits : (h l : ℕ) → (ltb h 16 && ltb l 16) ≡ true → (h < 16) × (l < 16)
+both-digits h l e = let q = and-true (ltb h 16) (ltb l 16) e in (ltb-true h 16 (q .0), ltb-true l 16 (q .1))
 
 -- the sum so far with what is left, or what says that there is none
 abbrev pub summed : ℕ → List ℕ → ℕ

@@ -6,9 +6,13 @@ use lib.Dec.{leb, ltb}
 use lib.ListN.{getD}
 use Rattle.memory.specs.Access.{pick}
 
--- the value of a hex digit of either case; 16 for any other character
+-- the value of a letter that is a hex digit, of either case; 16 for any other character
+unfoldable pub letterOf : ℕ → ℕ
+letterOf c = pick (leb 65 c && leb c 70) (c - 55) (pick (leb 97 c && leb c 102) (c - 87) 16)
+
+-- the value of a hex digit; 16 for any other character
 unfoldable pub digitOf : ℕ → ℕ
-digitOf c = pick (leb 48 c && leb c 57) (c - 48) (pick (leb 65 c && leb c 70) (c - 55) (pick (leb 97 c && leb c 102) (c - 87) 16))
+digitOf c = pick (leb 48 c && leb c 57) (c - 48) (letterOf c)
 
 -- the byte that two digits spell; 256, which is no byte, if one is none
 unfoldable pub joined : ℕ → ℕ → ℕ

@@ -3,33 +3,30 @@ ghost use mathlib.Core.Path.{_≡_};
 ghost use Prim.Native.Nat.{_+_, _*_, _≤_};
 ghost use lib.ListN.{length};
 ghost use Rattle.memory.specs.Access.{pick};
-ghost use Rattle.srecord.specs.Hex.{digitOf, joined, pairAt, bytesAt, allBytes, sumOf, numberFrom};
+ghost use Rattle.srecord.specs.Hex.{letterOf, digitOf, joined, pairAt, bytesAt, allBytes, sumOf, numberFrom};
 
-// The value of a hex digit, 16 for any other character.
-fn digit(c: u8) -> u8
+// The value of a letter that is a hex digit, 16 for any other character; bit 32 tells the cases apart.
+fn letter(c: u8) -> u32
+    ensures { λ r. ⌜ r ≡ letterOf c ⌝ }
+{
+    let place = ((c | 32) as u32 + 159) % 256;
+    if place < 6 { place + 10 } else { 16 }
+}
+
+// The value of a hex digit, 16 for any other character. Both answers are made first, so that none is jumped to.
+fn digit(c: u8) -> u32
     ensures { λ r. ⌜ r ≡ digitOf c ⌝ }
 {
-    if (48 <= c) & (c <= 57) {
-        return c - 48;
-    }
-    if (65 <= c) & (c <= 70) {
-        return c - 55;
-    }
-    if (97 <= c) & (c <= 102) {
-        return c - 87;
-    }
-    16
+    let place = (c as u32 + 208) % 256;
+    let other = letter(c);
+    if place < 10 { place } else { other }
 }
 
 // The byte that two digits spell, 256 if they are none.
-fn join(h: u8, l: u8) -> u32
+fn join(h: u32, l: u32) -> u32
     ensures { λ r. ⌜ (r ≡ joined h l) × (r ≤ 256) ⌝ }
 {
-    if (h < 16) & (l < 16) {
-        h as u32 * 16 + l as u32
-    } else {
-        256
-    }
+    if (h < 16) & (l < 16) { h * 16 + l } else { 256 }
 }
 
 // The byte that the two digits from a place on spell, 256 if there are none.
