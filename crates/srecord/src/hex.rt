@@ -5,7 +5,7 @@ ghost use lib.ListN.{length};
 ghost use Rattle.memory.specs.Access.{pick};
 ghost use Rattle.srecord.specs.Hex.{letterOf, digitOf, joined, pairAt, bytesAt, allBytes, sumOf, numberFrom};
 
-// The value of a letter that is a hex digit, 16 for any other character; bit 32 tells the cases apart.
+// The value of a letter that is a hex digit, 16 for any other character. With 32 a letter is lower-case, and 159 is 256 less `a`.
 fn letter(c: u8) -> u32
     ensures { λ r. ⌜ r ≡ letterOf c ⌝ }
 {
@@ -13,7 +13,7 @@ fn letter(c: u8) -> u32
     if place < 6 { place + 10 } else { 16 }
 }
 
-// The value of a hex digit, 16 for any other character. Both answers are made first, so that none is jumped to.
+// The value of a hex digit, 16 for any other character. 208 is 256 less `0`; both answers are made first, so that none is jumped to.
 fn digit(c: u8) -> u32
     ensures { λ r. ⌜ r ≡ digitOf c ⌝ }
 {
