@@ -2,7 +2,8 @@
  * caller lends and gets.
  *
  * Each function answers what the proved operations answer. All that is decided here is that a state of other than 144 bytes
- * gets refusal 7, before every other check (from ppe42_access 0, as every refusal there).
+ * gets refusal 7, before every other check (from ppe42_access 0, as every refusal there), and how a line number is told that
+ * has no room in 32 bits (ppe42_srec_read).
  *
  * - Memory is lent: memory_len bytes at the core's addresses 0 to memory_len - 1, big-endian. Its length is a multiple of 32,
  *   from 32 to 1,048,576.

@@ -1,5 +1,6 @@
 // The C boundary: exported functions on numbers and lent bytes, declared in include/ppe42.h. All that is
-// decided here is that a state of other than 144 bytes gets refusal 7 (docs/DECISIONS.md D31).
+// decided here is that a state of other than 144 bytes gets refusal 7 (docs/DECISIONS.md D31), and how a
+// line number is told that has no room in 32 bits (D43).
 ghost use mathlib.Core.Path.{_≡_};
 ghost use Prim.Native.Nat.{_<_, _^_};
 ghost use lib.ListN.{length};
