@@ -1,4 +1,4 @@
--- What a file means: the first line that is refused, or the memory that its records give.
+-- What a file means: the first line that is refused, or the memory that its records give (C-15; docs/DECISIONS.md D43).
 use Prim.Native.Nat.{ℕ, zero, suc, _+_}
 use mathlib.Core.Bool.{Bool, false, not, _||_}
 use mathlib.Core.List.{List, [], _∷_, _++_}
@@ -16,10 +16,12 @@ unfoldable pub places : ℕ → ℕ → List ℕ
 places a zero = []
 places a (suc n) = a ∷ places (suc a) n
 
+-- an address is among others
 unfoldable pub isIn : ℕ → List ℕ → Bool
 isIn x [] = false
 isIn x (y ∷ ys) = eqb x y || isIn x ys
 
+-- one of some is
 unfoldable pub anyIn : List ℕ → List ℕ → Bool
 anyIn [] ys = false
 anyIn (x ∷ xs) ys = isIn x ys || anyIn xs ys
@@ -55,6 +57,7 @@ recordRefusal m s t a n =
     orElse (unless (not (s .ended)) Refusal.Record)
     (pick (isData t) (dataRefusal m s t a n) (pick (isEnd t) (endRefusal s t) (pick (eqb t 5) (countRefusal s a) Refusal.None)))
 
+-- 13 for a line that holds no record
 unfoldable pub lineRefusal : ℕ → Seen → Line → Refusal
 lineRefusal m s malformed = Refusal.Record
 lineRefusal m s (holds t a d) = recordRefusal m s t a (length d)
@@ -94,6 +97,7 @@ unfoldable pub put : List ℕ → Line → List ℕ
 put m malformed = m
 put m (holds t a d) = pick (isData t) (sets m a d) m
 
+-- and with those of all lines, one after the other
 unfoldable pub placed : List ℕ → List (List ℕ) → List ℕ
 placed m [] = m
 placed m (l ∷ ls) = let r = placed (put m (recordOf l)) ls in r

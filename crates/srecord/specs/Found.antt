@@ -1,4 +1,4 @@
--- What the code answers of a line: where the parts of its record stand. Nothing public cites this.
+-- What the code answers of a line: where the parts of its record stand. It serves code, and no promise speaks of it.
 use Prim.Native.Nat.{ℕ, _+_, _*_, _-_}
 use mathlib.Core.List.{List}
 use lib.Dec.{eqb}

@@ -1,4 +1,4 @@
--- Bytes spelt by pairs of hex digits, by the places at which they stand in a text.
+-- Bytes spelt by pairs of hex digits, of either case (C-15), by the places at which they stand in a text.
 use Prim.Native.Nat.{ℕ, zero, suc, _+_, _*_, _-_}
 use mathlib.Core.Bool.{Bool, true, _&&_}
 use mathlib.Core.List.{List, [], _∷_}

@@ -1,4 +1,4 @@
--- What the code's check of a record answers, for any addresses that its words stand for. Nothing public cites this.
+-- What the code's check of a record answers, for any addresses that its words stand for. It serves code.
 use Prim.Native.Nat.{ℕ}
 use mathlib.Core.Bool.{true}
 use mathlib.Core.Path.{_≡_}

@@ -1,4 +1,4 @@
--- How the code holds the addresses named so far: a bit for each, 32 to a word, the first at the left. Nothing public cites this.
+-- How the code holds the addresses named so far: a bit for each, 32 to a word, the first at the left. It serves code.
 use Prim.Native.Nat.{ℕ, zero, suc, _+_, _/_, _%_, _<_}
 use mathlib.Core.Path.{_≡_}
 use mathlib.Core.Bool.{Bool, false, _||_}

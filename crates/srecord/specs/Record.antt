@@ -1,4 +1,5 @@
--- The lines of a file, and the record that a line holds: S, a type, then in hex a count, an address, data and a check byte.
+-- The lines of a file, and the record that a line holds: S, a type, then in hex a count, an address, data and a check byte (C-15; what
+-- that leaves open is docs/DECISIONS.md D43).
 use Prim.Native.Nat.{ℕ, _+_, _*_, _-_, _%_}
 use mathlib.Core.Bool.{Bool, not, _&&_, _||_}
 use mathlib.Core.List.{List, [], _∷_}

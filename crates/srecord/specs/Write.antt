@@ -1,4 +1,4 @@
--- The file that is written of a memory, and what is answered and left in the output.
+-- The file that is written of a memory (C-15), and what is answered and left in the output.
 use Prim.Native.Nat.{ℕ, zero, suc, _+_, _*_, _-_, _/_, _%_}
 use mathlib.Core.List.{List, [], _∷_, _++_}
 use lib.Dec.{ltb, leb}
