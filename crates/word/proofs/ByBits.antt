@@ -73,7 +73,8 @@ upper w (suc n) h l =
     let r : bitsOf n (bitAt w) * 2 + digit (bitAt w n) ≡ w / 2 ^ (31 - n) = omega arith in
     r ∙ ap (λ (k : ℕ). w / 2 ^ k) (sym e′)
 
-agree : (n : ℕ) (f g : ℕ → Bool) → ((i : ℕ) → i < n → f i ≡ g i) → bitsOf n f ≡ bitsOf n g
+-- numbers of the same bits are the same
+pub agree : (n : ℕ) (f g : ℕ → Bool) → ((i : ℕ) → i < n → f i ≡ g i) → bitsOf n f ≡ bitsOf n g
 agree zero f g h = refl
 agree (suc n) f g h =
     ap₂ (λ (x : ℕ) (b : Bool). x * 2 + digit b) (agree n f g (λ i l. h i (omega arith))) (h n (omega arith))

@@ -5,8 +5,10 @@ pub mod Below
 pub mod ByBits
 pub mod Masks
 pub mod Rotations
+pub mod Doubles
 pub mod Order
 pub mod Sums
+pub mod Products
 pub mod Meanings
 pub mod Worked
 pub mod Signs

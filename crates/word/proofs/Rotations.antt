@@ -1,6 +1,6 @@
 -- ROTL moves each bit n places to the left, and those that leave come in on the right. Assumes nothing.
-use mathlib.Core.Path.{_≡_, refl, sym, ap, ap₂, _∙_}
-use mathlib.Core.Bool.{Bool, true, false, _||_}
+use mathlib.Core.Path.{_≡_, sym, ap, ap₂, _∙_}
+use mathlib.Core.Bool.{_||_}
 use Prim.Native.Nat.{ℕ, suc, _+_, _-_, _*_, _/_, _%_, _^_, _≤_, _<_}
 use native.Mathlib.Nat.{mul-assoc, div-eq-of-lt, lt-of-lt-of-le}
 use native.Mathlib.Omega.{arith}
@@ -12,6 +12,7 @@ use Rattle.word.specs.Shift.{slw, srw}
 use Rattle.word.specs.Rotate.{rotl}
 use Rattle.word.proofs.ByBits.{bit-or}
 use Rattle.word.proofs.Laws.{split}
+use Rattle.word.proofs.Truth.{or-none}
 
 -- the bit of a shift to the left: the remainder by 2 ^ 32 does not touch it
 low-bit : (y k : ℕ) → k < 32 → y % 2 ^ 32 / 2 ^ k % 2 ≡ y / 2 ^ k % 2
@@ -29,10 +30,6 @@ left-more x k j = ap (λ (m : ℕ). x * m / 2 ^ k) (pow-add 2 j k) ∙ ap (λ (m
 
 gone : (x k : ℕ) → x < 2 ^ 32 → 32 ≤ k → x / 2 ^ k ≡ 0
 gone x k hx hk = div-eq-of-lt (lt-of-lt-of-le hx (pow-mono hk))
-
-or-none : (b : Bool) → (b || false) ≡ b
-or-none true = refl
-or-none false = refl
 
 pub rotl-bit : (x n i : ℕ) → x < 2 ^ 32 → n < 32 → i < 32 → bitAt (rotl x n) i ≡ bitAt x ((i + n) % 32)
 rotl-bit x n i hx hn hi =

@@ -1,19 +1,19 @@
 -- The definitions on words, said on the integers that the words stand for in two's complement. Assumes nothing.
 use mathlib.Core.Path.{_≡_, refl, sym, ap, ap₂, _∙_}
 use Prim.Native.Nat.{ℕ, zero, suc, _+_, _-_, _*_, _/_, _%_, _^_, _≤_, _<_}
-use native.Mathlib.Nat.{mod-eq-of-lt, div-eq-of-lt, mul-comm}
+use native.Mathlib.Nat.{mod-eq-of-lt, div-eq-of-lt, mul-comm, mul-le-mul-left}
 use native.Mathlib.Omega.{arith}
 use lib.Arith.{digits-div}
 use lib.Dec.{ltb, lit<, lit≤}
 use lib.IntN.{pos, negsuc, negℤ, _*ℤ_}
 use lib.Signed.{shrZ}
-use mir.Syntax.{w8, w16, w32}
+use mir.Syntax.{w8, w16, w32, w64}
 use mir.Val.{toZ, ofZ, sel}
 use borrow.Author.Tests.{lt-ltb, le-ltb, le-leb, lt-leb}
 use Rattle.word.specs.Logical.{inv}
 use Rattle.word.specs.Sign.{exts}
 use Rattle.word.specs.Shift.{sraw}
-use Rattle.word.specs.Multiply.{mullhw}
+use Rattle.word.specs.Multiply.{mullhw, lowWord}
 use Rattle.word.proofs.Laws.{split}
 use Rattle.word.proofs.Laws.{below}
 
@@ -90,3 +90,27 @@ product-signed h g hh hg =
 
 pub mullhw-signed : (a b : ℕ) → mullhw a b ≡ ofZ w32 (toZ w16 (a % 2 ^ 16) *ℤ toZ w16 (b % 2 ^ 16))
 mullhw-signed a b = product-signed (a % 2 ^ 16) (b % 2 ^ 16) (omega arith) (omega arith)
+
+-- the bits of minus k among 64, as far as a word of them goes
+minus-low : (k : ℕ) → ofZ w64 (negℤ (pos k)) % 2 ^ 32 ≡ (2 ^ 64 - k) % 2 ^ 32
+minus-low zero = refl
+minus-low (suc k) = refl
+
+-- a number times a negative one, by what that lacks
+low-pos-neg : (a b l : ℕ) → a < 2 ^ 32 → b + l ≡ 2 ^ 32 → a * b % 2 ^ 32 ≡ ofZ w64 (negℤ (pos (a * l))) % 2 ^ 32
+low-pos-neg a b l ha hb =
+    let fits : a * l ≤ a * 2 ^ 32 = mul-le-mul-left a (omega arith) in
+    omega (arith, ap (λ (t : ℕ). a * t) hb) ∙ sym (minus-low (a * l))
+
+-- the low word of a product is that of the 64 bits of the signed product
+pub low-word-signed : (a b : ℕ) → a < 2 ^ 32 → b < 2 ^ 32 → lowWord a b ≡ ofZ w64 (toZ w32 a *ℤ toZ w32 b) % 2 ^ 32
+low-word-signed a b ha hb =
+    split a (2 ^ 31)
+    (λ p. split b (2 ^ 31)
+    (λ q. simp (lt-ltb a (2 ^ 31) p, lt-ltb b (2 ^ 31) q))
+    (λ q. simp (lt-ltb a (2 ^ 31) p, le-ltb b (2 ^ 31) q) (low-pos-neg a b _ ha (omega arith))))
+    (λ p. split b (2 ^ 31)
+    (λ q.
+    simp (le-ltb a (2 ^ 31) p, lt-ltb b (2 ^ 31) q)
+    (ap (λ (k : ℕ). k % 2 ^ 32) (mul-comm a b) ∙ low-pos-neg b a _ hb (omega arith) ∙ ap (λ (k : ℕ). ofZ w64 (negℤ (pos k)) % 2 ^ 32) (mul-comm b _)))
+    (λ q. simp (le-ltb a (2 ^ 31) p, le-ltb b (2 ^ 31) q) (both-lack a b _ _ (omega arith) (omega arith))))

@@ -7,3 +7,4 @@ pub mod Shift
 pub mod Rotate
 pub mod Compare
 pub mod Multiply
+pub mod Double

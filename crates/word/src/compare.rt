@@ -5,7 +5,7 @@ ghost use Rattle.word.specs.Compare.{cr0, lessSigned, comparedSigned, co
 use crate::bits::digit_of;
 
 // The four bits from the left: less, greater, equal, summary overflow.
-fn cr0_of(lt: bool, gt: bool, eq: bool, so: bool) -> u32
+pub fn cr0_of(lt: bool, gt: bool, eq: bool, so: bool) -> u32
     ensures { λ r. ⌜ r ≡ cr0 lt gt eq so ⌝ }
 {
     digit_of(lt) * 8 + digit_of(gt) * 4 + digit_of(eq) * 2 + digit_of(so)

@@ -7,4 +7,5 @@ pub mod sign; // sign.rt: EXTS
 pub mod shift; // shift.rt: slw, srw, sraw
 pub mod rotate; // rotate.rt: ROTL, MASK, and insertion under a mask
 pub mod compare; // compare.rt: CR0 after a compare and after a result
-pub mod multiply; // multiply.rt: products of the low halfwords
+pub mod multiply; // multiply.rt: products of two words and of their low halfwords
+pub mod double; // double.rt: ROTL, MASK, insertion and CR0 for doublewords
