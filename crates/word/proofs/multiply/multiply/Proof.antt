@@ -19,5 +19,9 @@ multiply-spec =
     (λ c. record { fits = omega (arith, digit-le (opposite (c .before .before .args .a) (c .before .before .args .b))) })
     (λ c κs. search needs)
     (λ c.
-    rw (c .low-word .ensures, c .before .magnitude2 .ensures, c .before .before .magnitude .ensures,
-    product-leaves (c .before .before .before .args .a) (c .before .before .before .args .b))))
+    rw (
+      c .low-word .ensures,
+      c .before .magnitude2 .ensures,
+      c .before .before .magnitude .ensures,
+      product-leaves (c .before .before .before .args .a) (c .before .before .before .args .b),
+    )))
