@@ -1,1 +1,3 @@
-pub mod Boundary
+pub mod Answer
+pub mod Captures
+pub mod Records

@@ -31,7 +31,12 @@ use Rattle.srecord.specs.File.{readOf as srecordRead, memoryOf as srecordMemory
 use Rattle.srecord.specs.Write.{writtenOf as srecordWritten, outOf as srecordOut}
 use Rattle.srecord.specs.declared.check.Verdict.{Verdict}
 use Rattle.srecord.specs.declared.write.Written.{Written as SrecordWritten}
-use Rattle.abi.specs.Boundary.{legalOf, rewriteOf, runAnswer, runState, runLent, reachAnswer, insideAnswer, insideState, insideLent, stepAnswer, stepState, stepLent, tellAnswer, accessAnswer, checkAnswer, writeAnswer, writeOut, srecReadAnswer, srecWriteAnswer, Assembles, assembledAnswer, listedAnswer}
+use Rattle.abi.specs.Captures.{checkAnswer, writeAnswer, writeOut}
+use Rattle.abi.specs.Records.{srecReadAnswer, srecWriteAnswer}
+use Rattle.abi_run.specs.Runs.{runAnswer, runState, runLent, reachAnswer, insideAnswer, insideState, insideLent, stepAnswer, stepState, stepLent}
+use Rattle.abi_tell.specs.Told.{tellAnswer, accessAnswer}
+use Rattle.abi_asm.specs.Words.{legalOf, rewriteOf}
+use Rattle.abi_asm.specs.Lines.{Assembles, assembledAnswer, listedAnswer}
 
 -- a contract that is an equation has one answer
 one : {A : Type 0} {x y z : A} → x ≡ z → y ≡ z → x ≡ y
