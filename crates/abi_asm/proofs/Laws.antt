@@ -9,7 +9,7 @@ use lib.ListN.{length}
 use Rattle.expr.specs.Grammar.{pick as choose}
 use Rattle.insn.specs.declared.instr.Decoded.{Decoded}
 use Rattle.asm.specs.Answer.{Answer}
-use Rattle.asm.specs.LineOf.{lineOf}
+use Rattle.syntax.specs.LineOf.{lineOf}
 use Rattle.asm.specs.Listing.{lineListed, listedOf}
 use Rattle.asm.specs.declared.assemble.Assembled.{Assembled}
 use Rattle.asm.specs.declared.disassemble.Listed.{Listed}

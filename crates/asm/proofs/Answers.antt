@@ -17,26 +17,27 @@ use Rattle.insn.specs.declared.instr.Instr.{Instr}
 use Rattle.insn.specs.declared.instr.Decoded.{Decoded}
 use Rattle.insn.specs.declared.instr.Written.{Written}
 use Rattle.insn.proofs.Round.{written-read}
-use Rattle.asm.specs.Syntax.{Item, shapeOf, written, plain}
-use Rattle.asm.specs.Line.{Part, Line, texts, Begins, Has, Opens}
-use Rattle.asm.specs.Worth.{First, none, at, fieldsFrom, firstOff, codes, allCodes}
+use Rattle.syntax.specs.Syntax.{Item, shapeOf, written, plain}
+use Rattle.syntax.specs.Line.{Part, Line, texts, Begins, Has, Opens}
+use Rattle.syntax.specs.Worth.{First, none, at, fieldsFrom, firstOff, codes, allCodes}
 use Rattle.asm.specs.Answer.{Spells, fieldsOf, Stops, Answer, accepted, stopped as answer-stopped, outside, invalid}
-use Rattle.asm.specs.LineOf.{lineOf}
-use Rattle.asm.specs.Take.{Result, all, stopped, takeLine, wellMade}
-use Rattle.asm.specs.Rows.{samples, sampleOf, rowOf}
-use Rattle.asm.specs.Inside.{patternAt, operandCount, doneOf, matches, rowsFrom, noOperands, gathered, checkedOf, codesIn, filled, refusedWith, assembledOf, encodedOf, settledOf, WithRows, Placed}
-use Rattle.asm.specs.declared.field.Field.{Field}
-use Rattle.asm.specs.declared.line.Operands.{Operands}
-use Rattle.asm.specs.declared.table.Job.{Job}
-use Rattle.asm.specs.declared.table.Done.{Done}
+use Rattle.syntax.specs.LineOf.{lineOf}
+use Rattle.syntax.specs.Take.{Result, all, stopped, takeLine, wellMade}
+use Rattle.syntax.specs.Rows.{samples, sampleOf, rowOf}
+use Rattle.syntax.specs.Inside.{patternAt, operandCount, doneOf, matches, rowsFrom, noOperands, gathered, WithRows}
+use Rattle.asm.specs.Inside.{checkedOf, codesIn, filled, refusedWith, assembledOf, encodedOf, settledOf, Placed}
+use Rattle.syntax.specs.declared.field.Field.{Field}
+use Rattle.syntax.specs.declared.line.Operands.{Operands}
+use Rattle.syntax.specs.declared.table.Job.{Job}
+use Rattle.syntax.specs.declared.table.Done.{Done}
 use Rattle.asm.specs.declared.assemble.Check.{Check}
 use Rattle.asm.specs.declared.assemble.Assembled.{Assembled}
-use Rattle.asm.proofs.Lines.{LineRead, Parsed, line-read, line-complete, line-stuck, line-unique, sooner, Some, some-line}
-use Rattle.asm.proofs.Rows.{Right, right-at, Stopped, Reached, Ran, ran, Listed, found, bad-same, not-printed}
-use Rattle.asm.proofs.Samples.{sample-at, sample-shape}
+use Rattle.syntax.proofs.Lines.{LineRead, Parsed, line-read, line-complete, line-stuck, line-unique, sooner, Some, some-line}
+use Rattle.syntax.proofs.Rows.{Right, right-at, Stopped, Reached, Ran, ran, Listed, found, bad-same, not-printed}
+use Rattle.syntax.proofs.Samples.{sample-at, sample-shape}
 use Rattle.asm.proofs.Filled.{pushAll, fill-back, fill-shape, fill-plain, fill-codes, spelt-same}
 use Rattle.asm.proofs.Fields.{gather-push, fields-count, folded, check-fold, fine-off, fine-unfit, Contents, fine-fine, codes-fine, codes-none, codes-same, bounded-fields}
-use Rattle.asm.proofs.Groups.{some, sampleAt, one-row, InRow, in-row, no-empty, shape-made}
+use Rattle.syntax.proofs.Groups.{some, sampleAt, one-row, InRow, in-row, no-empty, shape-made}
 use Rattle.asm.proofs.Back.{line-back, line-length}
 
 -- ---- the row that has a line, and that no other has it

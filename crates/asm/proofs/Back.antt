@@ -15,16 +15,16 @@ use Rattle.expr.specs.Evaluate.{negated, digitOf, digitsValue, evalE}
 use Rattle.expr.specs.declared.Value.{Value}
 use Rattle.expr.proofs.Cases.{split-lt, split-eq}
 use Rattle.expr.proofs.Signs.{neg-pos}
-use Rattle.asm.specs.Syntax.{Range, signed, unsigned, target, Item, reg, zreg, num, Piece, letter, gpr, gprOr0, number, letters, commas, spelt, written, itemOf, itemsOf, shapeOf}
-use Rattle.asm.specs.Text.{bytes}
-use Rattle.asm.specs.Line.{Part, byte, register, zero as lone, value, textOf, texts, Fits, fits-lit, fits-reg, fits-zreg, fits-zero, fits-num, Line, line-end, line-more}
-use Rattle.asm.specs.Worth.{signedCode, unsignedCode, targetCode, codeOf, registerField, fieldOf, kept, fieldsFrom, codes, allCodes}
-use Rattle.asm.specs.LineOf.{decimal, signedText, numberText, registerText, baseText, pieceText, pieceTexts, lineOf}
-use Rattle.asm.specs.Rows.{samples, samplesA, samplesB, samplesC, samplesD, samplesE, samplesL, samplesM, samplesN, samplesO, samplesR, samplesS, samplesT, samplesW, samplesX, rowOf}
-use Rattle.asm.specs.Inside.{wideItem, wide}
-use Rattle.asm.specs.declared.field.Field.{Field}
-use Rattle.asm.proofs.Printing.{decimal-length, signed-length}
-use Rattle.asm.proofs.Samples.{sample-shape, sample-at, row-in}
+use Rattle.syntax.specs.Syntax.{Range, signed, unsigned, target, Item, reg, zreg, num, Piece, letter, gpr, gprOr0, number, letters, commas, spelt, written, itemOf, itemsOf, shapeOf}
+use Rattle.syntax.specs.Text.{bytes}
+use Rattle.syntax.specs.Line.{Part, byte, register, zero as lone, value, textOf, texts, Fits, fits-lit, fits-reg, fits-zreg, fits-zero, fits-num, Line, line-end, line-more}
+use Rattle.syntax.specs.Worth.{signedCode, unsignedCode, targetCode, codeOf, registerField, fieldOf, kept, fieldsFrom, codes, allCodes}
+use Rattle.syntax.specs.LineOf.{decimal, signedText, numberText, registerText, baseText, pieceText, pieceTexts, lineOf}
+use Rattle.syntax.specs.Rows.{samples, samplesA, samplesB, samplesC, samplesD, samplesE, samplesL, samplesM, samplesN, samplesO, samplesR, samplesS, samplesT, samplesW, samplesX, rowOf}
+use Rattle.syntax.specs.Inside.{wideItem, wide}
+use Rattle.syntax.specs.declared.field.Field.{Field}
+use Rattle.syntax.proofs.Printing.{decimal-length, signed-length}
+use Rattle.syntax.proofs.Samples.{sample-shape, sample-at, row-in}
 use Rattle.asm.proofs.Filled.{sizeOf, Fit, fit-written}
 
 -- digits, one or more, and their value

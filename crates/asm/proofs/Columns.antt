@@ -11,11 +11,11 @@ use lib.ListN.{length, length-append}
 use Rattle.expr.specs.Grammar.{Expr, Prod, Fac, textE, textP, textF, signByte, prefixOf, pick}
 use Rattle.expr.specs.Evaluate.{inRange, negated, both, joinZ, joined, multiplied, digitsValue, evalE, evalP, evalF}
 use Rattle.expr.specs.declared.Value.{Value}
-use Rattle.asm.specs.Syntax.{Range, signed, unsigned, target, Item, lit, reg, zreg, num}
-use Rattle.asm.specs.Line.{Part, byte, register, zero as lone, value, textOf, texts, Has}
-use Rattle.asm.specs.Worth.{below, signedCode, unsignedCode, targetCode, codeOf, registerField, numberField, fieldOf, kept, fieldsFrom, First, none, at, orElse, firstOff}
+use Rattle.syntax.specs.Syntax.{Range, signed, unsigned, target, Item, lit, reg, zreg, num}
+use Rattle.syntax.specs.Line.{Part, byte, register, zero as lone, value, textOf, texts, Has}
+use Rattle.syntax.specs.Worth.{below, signedCode, unsignedCode, targetCode, codeOf, registerField, numberField, fieldOf, kept, fieldsFrom, First, none, at, orElse, firstOff}
 use Rattle.asm.specs.Answer.{Answer, accepted, stopped as answer-stopped, outside, invalid, fieldsOf}
-use Rattle.asm.specs.declared.field.Field.{Field}
+use Rattle.syntax.specs.declared.field.Field.{Field}
 use Rattle.asm.specs.declared.assemble.Assembled.{Assembled}
 use Rattle.asm.proofs.Answers.{at-same}
 

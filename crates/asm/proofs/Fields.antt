@@ -11,12 +11,13 @@ use lib.ListN.{length}
 use Rattle.expr.specs.Grammar.{Expr, pick}
 use Rattle.expr.specs.Evaluate.{evalE, digitsValue}
 use Rattle.expr.specs.declared.Value.{Value}
-use Rattle.asm.specs.Syntax.{Range, signed, unsigned, target, Item, lit, reg, zreg, num}
-use Rattle.asm.specs.Line.{Part, byte, register, zero as lone, value, textOf, Line, line-end, line-more, Fits, fits-lit, fits-reg, fits-zreg, fits-zero, fits-num}
-use Rattle.asm.specs.Worth.{below, signedCode, unsignedCode, targetCode, codeOf, registerField, numberField, fieldOf, kept, fieldsFrom, allCodes, First, none, at, firstOff}
-use Rattle.asm.specs.Inside.{noOperands, pushed, pushOn, gathered, operandCount, afterOf, checkedOf}
-use Rattle.asm.specs.declared.field.Field.{Field}
-use Rattle.asm.specs.declared.line.Operands.{Operands}
+use Rattle.syntax.specs.Syntax.{Range, signed, unsigned, target, Item, lit, reg, zreg, num}
+use Rattle.syntax.specs.Line.{Part, byte, register, zero as lone, value, textOf, Line, line-end, line-more, Fits, fits-lit, fits-reg, fits-zreg, fits-zero, fits-num}
+use Rattle.syntax.specs.Worth.{below, signedCode, unsignedCode, targetCode, codeOf, registerField, numberField, fieldOf, kept, fieldsFrom, allCodes, First, none, at, firstOff}
+use Rattle.syntax.specs.Inside.{noOperands, pushed, pushOn, gathered, operandCount}
+use Rattle.asm.specs.Inside.{afterOf, checkedOf}
+use Rattle.syntax.specs.declared.field.Field.{Field}
+use Rattle.syntax.specs.declared.line.Operands.{Operands}
 use Rattle.asm.specs.declared.assemble.Check.{Check}
 use Rattle.asm.proofs.Filled.{pushAll, sizeOf, sizes, Below, Bounded}
 

@@ -23,15 +23,16 @@ use Rattle.insn.specs.declared.instr.System.{System}
 use Rattle.insn.specs.declared.instr.ArithImmOp.{ArithImmOp}
 use Rattle.insn.specs.declared.instr.SprOp.{SprOp}
 use Rattle.insn.specs.declared.instr.Sign.{Sign}
-use Rattle.asm.specs.Syntax.{Range, signed, unsigned, target, Item, lit, reg, zreg, num, Piece, letter, gpr, gprOr0, number, letters, spelt, written, plain, itemsOf, shapeOf}
-use Rattle.asm.specs.Text.{bytes}
-use Rattle.asm.specs.Worth.{codes, allCodes}
-use Rattle.asm.specs.Rows.{sampleOf}
-use Rattle.asm.specs.Inside.{noOperands, pushed, codesIn, filled}
-use Rattle.asm.specs.declared.field.Field.{Field}
-use Rattle.asm.specs.declared.line.Operands.{Operands}
+use Rattle.syntax.specs.Syntax.{Range, signed, unsigned, target, Item, lit, reg, zreg, num, Piece, letter, gpr, gprOr0, number, letters, spelt, written, plain, itemsOf, shapeOf}
+use Rattle.syntax.specs.Text.{bytes}
+use Rattle.syntax.specs.Worth.{codes, allCodes}
+use Rattle.syntax.specs.Rows.{sampleOf}
+use Rattle.syntax.specs.Inside.{noOperands, pushed}
+use Rattle.asm.specs.Inside.{codesIn, filled}
+use Rattle.syntax.specs.declared.field.Field.{Field}
+use Rattle.syntax.specs.declared.line.Operands.{Operands}
 use Rattle.asm.specs.declared.fill.Codes.{Codes}
-use Rattle.asm.proofs.Samples.{operands, spelt-is, sample-shape}
+use Rattle.syntax.proofs.Samples.{operands, spelt-is, sample-shape}
 
 unfoldable pub pushAll : Operands → List Field → Operands
 pushAll o [] = o

@@ -1,10 +1,5 @@
-pub mod Lines
-pub mod Walk
-pub mod Rows
-pub mod Samples
 pub mod Filled
 pub mod Back
-pub mod Groups
 pub mod Fields
 pub mod Answers
 pub mod Printing

@@ -7,10 +7,10 @@ use lib.ListN.{length, take}
 use Rattle.insn.specs.Valid.{validOf}
 use Rattle.insn.specs.Write.{wordOf}
 use Rattle.insn.specs.declared.instr.Instr.{Instr}
-use Rattle.asm.specs.Syntax.{written, plain, shapeOf}
-use Rattle.asm.specs.Line.{Part, Line, texts, Has, Opens}
-use Rattle.asm.specs.Worth.{First, none, at, fieldsFrom, firstOff, codes, allCodes}
-use Rattle.asm.specs.declared.field.Field.{Field}
+use Rattle.syntax.specs.Syntax.{written, plain, shapeOf}
+use Rattle.syntax.specs.Line.{Part, Line, texts, Has, Opens}
+use Rattle.syntax.specs.Worth.{First, none, at, fieldsFrom, firstOff, codes, allCodes}
+use Rattle.syntax.specs.declared.field.Field.{Field}
 use Rattle.asm.specs.declared.assemble.Assembled.{Assembled}
 
 -- the line is the instruction's: of its shape, its operands what the instruction's fields hold, and the fields it does not write 0

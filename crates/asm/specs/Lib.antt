@@ -1,11 +1,4 @@
-pub mod Text
-pub mod Names
-pub mod Syntax
-pub mod Line
-pub mod Worth
 pub mod Answer
-pub mod LineOf
-pub mod Rows
-pub mod Take
+pub mod Queue
 pub mod Inside
 pub mod Listing

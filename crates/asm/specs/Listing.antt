@@ -7,8 +7,8 @@ use lib.ListN.{length}
 use lib.Seq.{sets}
 use Rattle.expr.specs.Grammar.{pick}
 use Rattle.insn.specs.declared.instr.Decoded.{Decoded}
-use Rattle.asm.specs.Syntax.{plain}
-use Rattle.asm.specs.LineOf.{lineOf}
+use Rattle.syntax.specs.Syntax.{plain}
+use Rattle.syntax.specs.LineOf.{lineOf}
 use Rattle.asm.specs.declared.disassemble.Listed.{Listed}
 
 abbrev pub lineListed : Decoded → Listed

@@ -6,14 +6,14 @@ ghost use Prim.Native.Nat.{_≤_, _<_};
 ghost use Rattle.insn.specs.Read.{decodeOf};
 ghost use Rattle.asm.specs.Answer.{Answer};
 ghost use Rattle.asm.specs.Inside.{refusedWith, afterOf, checkedOf, encodedOf, settledOf, Placed};
-use crate::field::Field;
 use crate::fill::codes_of;
 use crate::fill::fill;
-use crate::line::Operands;
-use crate::table::Done;
-use crate::table::Job;
-use crate::table::at_letter;
 use insn::instr::Decoded;
+use syntax::field::Field;
+use syntax::line::Operands;
+use syntax::table::Done;
+use syntax::table::Job;
+use syntax::table::at_letter;
 
 pub struct Assembled {
     pub refusal: u8,

@@ -4,9 +4,9 @@ ghost use Rattle.insn.specs.Read.{decodeOf};
 ghost use Rattle.asm.specs.Listing.{listedOf, listedOut};
 use crate::queue::is_plain;
 use crate::queue::queue_of;
-use crate::row::row_of;
-use crate::table::print_row;
 use insn::instr::Decoded;
+use syntax::row::row_of;
+use syntax::table::print_row;
 
 // Refused with 8, since the output has under 64 bytes; an illegal word; or the bytes of the line, and whether a field that it
 // does not write is set.

@@ -1,9 +1,9 @@
 // An instruction with its operands' fields in place of what it had there.
 ghost use mathlib.Core.Path.{_≡_};
 ghost use Rattle.asm.specs.Inside.{codeIn, codesIn, eightOf, sixteenOf, filled, filledSpr, filledArithmetic, filledLogical, filledCompare, filledRotate, filledLoadStore, filledBranch, filledSystem};
-use crate::field::Field;
-use crate::line::Operands;
 use insn::instr::*;
+use syntax::field::Field;
+use syntax::line::Operands;
 
 // The contents of the fields of a line's operands: a is of the last, b of the one before it.
 pub struct Codes {

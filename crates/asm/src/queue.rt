@@ -1,33 +1,12 @@
 // The fields of an instruction's operands, in the order of its syntax line.
 ghost use mathlib.Core.Path.{_≡_};
 ghost use Rattle.word.specs.Bits.{digit};
-ghost use Rattle.asm.specs.Syntax.{plain};
-ghost use Rattle.asm.specs.Inside.{nextOf};
-ghost use Rattle.asm.specs.Rows.{queued, queueOf};
+ghost use Rattle.syntax.specs.Syntax.{plain};
+ghost use Rattle.asm.specs.Queue.{queued, queueOf};
 ghost use Rattle.insn.specs.declared.instr.Instr.{Instr};
 ghost use Rattle.insn.specs.declared.instr.System.{System};
 use insn::instr::*;
-
-// The next operand's field is a.
-pub struct Queue {
-    pub a: u32,
-    pub b: u32,
-    pub c: u32,
-    pub d: u32,
-    pub e: u32,
-}
-
-pub fn next(q: Queue) -> Queue
-    ensures { λ r. ⌜ r ≡ nextOf q ⌝ }
-{
-    Queue {
-        a: q.b,
-        b: q.c,
-        c: q.d,
-        d: q.e,
-        e: 0,
-    }
-}
+use syntax::queue::Queue;
 
 fn five(a: u32, b: u32, c: u32, d: u32, e: u32) -> Queue
     ensures { λ r. ⌜ r ≡ queued a b c d e ⌝ }

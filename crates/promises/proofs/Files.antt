@@ -7,7 +7,7 @@ use mathlib.Core.List.{List, [], _∷_, _++_, map}
 use lib.ListN.{replicate}
 use Rattle.memory.specs.Access.{sizedOf}
 use Rattle.memory.specs.Store.{bytesOf}
-use Rattle.asm.specs.Text.{bytes}
+use Rattle.syntax.specs.Text.{bytes}
 use Rattle.machine.specs.declared.refusal.Refusal.{Refusal}
 use Rattle.srecord.specs.Hex.{letterOf, digitOf, joined, pairAt, bytesAt, allBytes, sumOf, numberFrom}
 use Rattle.srecord.specs.Record.{linesOf, widthOf, endsAt, roomFor, headedAt, formedAt, heldAt, recordAt}

@@ -11,10 +11,10 @@ use Rattle.insn.specs.Read.{decodeOf}
 use Rattle.insn.specs.declared.instr.Instr.{Instr}
 use Rattle.insn.specs.declared.instr.Decoded.{Decoded}
 use Rattle.insn.proofs.Round.{read-written, written-read}
-use Rattle.asm.specs.Syntax.{plain}
-use Rattle.asm.specs.Line.{Has}
-use Rattle.asm.specs.Worth.{none, at, firstOff}
-use Rattle.asm.specs.LineOf.{lineOf}
+use Rattle.syntax.specs.Syntax.{plain}
+use Rattle.syntax.specs.Line.{Has}
+use Rattle.syntax.specs.Worth.{none, at, firstOff}
+use Rattle.syntax.specs.LineOf.{lineOf}
 use Rattle.asm.specs.Answer.{Spells, Stops, fieldsOf, Answer, accepted, stopped, outside, invalid}
 use Rattle.asm.specs.declared.assemble.Assembled.{Assembled}
 use Rattle.asm.proofs.Answers.{answer-once, spelt-accepted, line-assembles}

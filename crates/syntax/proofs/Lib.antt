@@ -1,0 +1,7 @@
+pub mod Lines
+pub mod Walk
+pub mod Rows
+pub mod Samples
+pub mod Groups
+pub mod Printing
+pub mod Letters

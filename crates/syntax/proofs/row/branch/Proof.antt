@@ -1,0 +1,28 @@
+use borrow.Author.Needs.{needs}
+use Rattle.syntax.proofs.row.branch.Statement.{statement}
+use Rattle.syntax.proofs.row.branch.Tie as tie
+
+pub branch-spec : {M : Type 1} → statement M
+branch-spec =
+    tie.close
+    (tie.spec
+    (λ c. search needs)
+    (λ c κs. search needs)
+    (λ c. search needs)
+    (λ c κs. search needs)
+    (λ c. search needs)
+    (λ c κs. search needs)
+    (λ c. search needs)
+    (λ c κs. search needs)
+    (λ c. search needs)
+    (λ c κs. search needs)
+    (λ c. search needs)
+    (λ c. search needs)
+    (λ c κs. search needs)
+    (λ c. search needs)
+    (λ c κs. search needs)
+    (λ c κs. search needs)
+    (λ c κs. search needs)
+    (λ c. rw (c .before .before .before .before .x .given .1) (search needs))
+    (λ c. rw (c .before .before .before .before .x2 .given .1) (search needs))
+    (λ c. rw (c .before .before .before .before .x3 .given .1) (search needs)))

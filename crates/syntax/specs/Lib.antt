@@ -1,0 +1,9 @@
+pub mod Text
+pub mod Names
+pub mod Syntax
+pub mod Line
+pub mod Worth
+pub mod LineOf
+pub mod Rows
+pub mod Take
+pub mod Inside
