@@ -9,6 +9,7 @@ use lib.ListN.{length, take}
 use lib.Seq.{length-take-le}
 use Rattle.memory.specs.Access.{pick, sizedOf}
 use Rattle.memory.proofs.Laws.{sized-bounds}
+use Rattle.insn.specs.declared.profile.Profile.{Profile}
 use Rattle.machine.specs.Register.{startRefusal}
 use Rattle.machine.proofs.Refusals.{or-accepts, unless-accepts, start-accepts}
 use Rattle.machine.specs.Refusal.{numberOf, acceptsOf, unless}
@@ -36,27 +37,27 @@ number-small Refusal.End = lit≤ tt
 number-small Refusal.Count = lit≤ tt
 
 -- a capture's memory and a whole capture are counted by words
-part-small : (b : Bool) (f : List ℕ) → acceptsOf (readRefusal f) ≡ b → length (pick b (take (sizeOf f) f) []) < 2 ^ 32
-part-small true f e =
-    let h = sized-bounds (sizeOf f) (read-accepts f e .sized) in
+part-small : (p : Profile) (b : Bool) (f : List ℕ) → acceptsOf (readRefusal p f) ≡ b → length (pick b (take (sizeOf f) f) []) < 2 ^ 32
+part-small p true f e =
+    let h = sized-bounds (sizeOf f) (read-accepts p f e .sized) in
     rw (length-take-le (sizeOf f) f (omega arith)) (omega arith)
-part-small false f e = lit< tt
+part-small p false f e = lit< tt
 
-pub memory-small : (f : List ℕ) → length (partOf f) < 2 ^ 32
+pub memory-small : (p : Profile) (f : List ℕ) → length (partOf p f) < 2 ^ 32
 unfolding partOf
-memory-small f = part-small (acceptsOf (readRefusal f)) f refl
+memory-small p f = part-small p (acceptsOf (readRefusal p f)) f refl
 
-written-small : (b : Bool) (s : State) (m n : ℕ) → acceptsOf (writeRefusal s m n) ≡ b → pick b (m + 156) 0 < 2 ^ 32
+written-small : (p : Profile) (b : Bool) (s : State) (m n : ℕ) → acceptsOf (writeRefusal p s m n) ≡ b → pick b (m + 156) 0 < 2 ^ 32
 unfolding writeRefusal
-written-small true s m n e =
-    let a = start-accepts s m (or-accepts (startRefusal s m) _ e .0) in
+written-small p true s m n e =
+    let a = start-accepts p s m (or-accepts (startRefusal p s m) _ e .0) in
     let h = sized-bounds m (a .0) in
     omega arith
-written-small false s m n e = lit< tt
+written-small p false s m n e = lit< tt
 
-pub bytes-small : (s : State) (m out : List ℕ) → writtenOf s m out .bytes < 2 ^ 32
+pub bytes-small : (p : Profile) (s : State) (m out : List ℕ) → writtenOf p s m out .bytes < 2 ^ 32
 unfolding writtenOf
-bytes-small s m out = written-small (acceptsOf (writeRefusal s (length m) (length out))) s (length m) (length out) refl
+bytes-small p s m out = written-small p (acceptsOf (writeRefusal p s (length m) (length out))) s (length m) (length out) refl
 
 srec-cases : (b : Bool) (m n : ℕ) → acceptsOf (srecRefusal m n) ≡ b → pick b (79 * (m / 32) + 15) 0 < 2 ^ 32
 unfolding srecRefusal

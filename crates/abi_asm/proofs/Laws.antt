@@ -7,6 +7,7 @@ use mathlib.Core.List.{List}
 use lib.Dec.{ltb}
 use lib.ListN.{length}
 use Rattle.expr.specs.Grammar.{pick as choose}
+use Rattle.insn.specs.declared.profile.Profile.{Profile}
 use Rattle.insn.specs.declared.instr.Decoded.{Decoded}
 use Rattle.asm.specs.Answer.{Answer}
 use Rattle.syntax.specs.LineOf.{lineOf}
@@ -18,8 +19,8 @@ use Rattle.asm.proofs.Columns.{answer-small}
 use Rattle.abi_asm.specs.Lines.{listedAnswer}
 
 -- a line's answer is small, and so is a line's length
-pub packed-fits : (s : List ℕ) (a : Assembled) → Answer s a → (a .column * 2 ^ 32 < 2 ^ 60) × (a .refusal * 2 ^ 48 + a .column * 2 ^ 32 < 2 ^ 60)
-packed-fits s a h = let b = answer-small s a h in (omega (arith, b .0), omega (arith, b .0, b .1))
+pub packed-fits : (p : Profile) (s : List ℕ) (a : Assembled) → Answer p s a → (a .column * 2 ^ 32 < 2 ^ 60) × (a .refusal * 2 ^ 48 + a .column * 2 ^ 32 < 2 ^ 60)
+packed-fits p s a h = let b = answer-small p s a h in (omega (arith, b .0), omega (arith, b .0, b .1))
 
 line-case : (b : Bool) (d : Decoded) (n : ℕ) (more : Bool) → Listed.Line n more ≡ choose b Listed.Refused (lineListed d) → n ≤ 64
 line-case true d n more e = let z : _≡_ {A = ℕ} 0 1 = cc in let y : ⊥ = omega arith in absurd y

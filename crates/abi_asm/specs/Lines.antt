@@ -3,6 +3,7 @@ use Prim.Native.Nat.{ℕ, _+_, _*_, _^_}
 use mathlib.Core.Path.{_≡_}
 use mathlib.Core.List.{List}
 use Rattle.word.specs.Bits.{digit}
+use Rattle.insn.specs.declared.profile.Profile.{Profile}
 use Rattle.asm.specs.Answer.{Answer}
 use Rattle.asm.specs.declared.assemble.Assembled.{Assembled}
 use Rattle.asm.specs.declared.disassemble.Listed.{Listed}
@@ -11,9 +12,9 @@ use Rattle.asm.specs.declared.disassemble.Listed.{Listed}
 abbrev pub assembledAnswer : Assembled → ℕ
 assembledAnswer a = a .refusal * 2 ^ 48 + a .column * 2 ^ 32 + a .word
 
-pub record Assembles (line : List ℕ) (r : ℕ) : Type 0 where
+pub record Assembles (p : Profile) (line : List ℕ) (r : ℕ) : Type 0 where
   pub answer : Assembled
-  pub given : Answer line answer
+  pub given : Answer p line answer
   pub packed : r ≡ assembledAnswer answer
 
 -- a word's answer: 8 as a refusal; 0 for an illegal word; how many bytes the line has, and whether it leaves out a field that is set

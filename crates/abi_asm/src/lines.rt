@@ -1,23 +1,24 @@
 // A line as its word, and a word as its line.
 ghost use mathlib.Core.Path.{_≡_};
-ghost use Rattle.insn.specs.Read.{decodeOf};
+ghost use Rattle.insn.specs.Read.{decodeOn};
 ghost use Rattle.abi_asm.specs.Lines.{Assembles, listedAnswer};
 ghost use Rattle.asm.specs.Listing.{listedOf, listedOut};
 use asm::disassemble::Listed;
+use insn::profile::Profile;
 
 // A line as its word: the refusal times 2^48, the column times 2^32, the word.
-pub fn assemble(line: &[u8]) -> u64
-    ensures { λ r. ⌜ Assembles (now (line .entry)) r ⌝ }
+pub fn assemble(profile: Profile, line: &[u8]) -> u64
+    ensures { λ r. ⌜ Assembles profile (now (line .entry)) r ⌝ }
 {
-    let a = asm::assemble::assemble(line);
+    let a = asm::assemble::assemble(profile, line);
     a.refusal as u64 * 0x1_0000_0000_0000 + a.column as u64 * 0x1_0000_0000 + a.word as u64
 }
 
 // A word as its line, in the first bytes of the output.
-pub fn disassemble(word: u32, out: &mut [u8]) -> u64
-    ensures { λ r. ⌜ (r ≡ listedAnswer (listedOf (decodeOf word) (now (out .entry)))) × (now (out .exit) ≡ listedOut (decodeOf word) (now (out .entry))) ⌝ }
+pub fn disassemble(profile: Profile, word: u32, out: &mut [u8]) -> u64
+    ensures { λ r. ⌜ (r ≡ listedAnswer (listedOf (decodeOn profile word) (now (out .entry)))) × (now (out .exit) ≡ listedOut (decodeOn profile word) (now (out .entry))) ⌝ }
 {
-    let listed = asm::disassemble::disassemble(word, out);
+    let listed = asm::disassemble::disassemble(profile, word, out);
     match listed {
         Listed::Refused => 0x8_0000_0000_0000,
         Listed::Illegal => 0,

@@ -4,6 +4,7 @@ use mathlib.Core.Bool.{_&&_}
 use mathlib.Core.List.{List}
 use lib.Seq.{sets}
 use Rattle.memory.specs.Access.{pick}
+use Rattle.insn.specs.declared.profile.Profile.{Profile}
 use Rattle.machine.specs.Refusal.{acceptsOf}
 use Rattle.machine.specs.declared.refusal.Refusal.{Refusal}
 use Rattle.run.specs.Outcome.{runOutcome, runMemory, runPast, insideOutcome, insideMemory, stepOutcome, stepMemory}
@@ -15,40 +16,40 @@ use Rattle.abi.specs.Answer.{answerOf, isState, lentState}
 abbrev pub stored : List ℕ → Outcome → List ℕ
 stored bytes o = pick (acceptsOf (o .refusal)) (sets bytes 0 (wordBytes (wordsOf (o .state)))) bytes
 
-unfoldable pub runAnswer : List ℕ → List ℕ → List ℕ → ℕ → ℕ
-runAnswer s m ev budget =
-    let o = runOutcome (lentState s) m ev budget in
+unfoldable pub runAnswer : Profile → List ℕ → List ℕ → List ℕ → ℕ → ℕ
+runAnswer p s m ev budget =
+    let o = runOutcome p (lentState s) m ev budget in
     pick (isState s) (answerOf (o .refusal) (o .steps)) (answerOf Refusal.Capture 0)
 
-unfoldable pub runState : List ℕ → List ℕ → List ℕ → ℕ → List ℕ
-runState s m ev budget = pick (isState s) (stored s (runOutcome (lentState s) m ev budget)) s
+unfoldable pub runState : Profile → List ℕ → List ℕ → List ℕ → ℕ → List ℕ
+runState p s m ev budget = pick (isState s) (stored s (runOutcome p (lentState s) m ev budget)) s
 
-unfoldable pub runLent : List ℕ → List ℕ → List ℕ → ℕ → List ℕ
-runLent s m ev budget = pick (isState s) (runMemory (lentState s) m ev budget) m
+unfoldable pub runLent : Profile → List ℕ → List ℕ → List ℕ → ℕ → List ℕ
+runLent p s m ev budget = pick (isState s) (runMemory p (lentState s) m ev budget) m
 
 -- the same answer, and 2^63 if the run reached past its memory
-unfoldable pub reachAnswer : List ℕ → List ℕ → List ℕ → ℕ → ℕ
-reachAnswer s m ev budget = runAnswer s m ev budget + pick (isState s && runPast (lentState s) m ev budget) (2 ^ 63) 0
+unfoldable pub reachAnswer : Profile → List ℕ → List ℕ → List ℕ → ℕ → ℕ
+reachAnswer p s m ev budget = runAnswer p s m ev budget + pick (isState s && runPast p (lentState s) m ev budget) (2 ^ 63) 0
 
 -- of the run that ends with the first step that reaches
-unfoldable pub insideAnswer : List ℕ → List ℕ → List ℕ → ℕ → ℕ
-insideAnswer s m ev budget =
-    let o = insideOutcome (lentState s) m ev budget in
-    pick (isState s) (answerOf (o .refusal) (o .steps)) (answerOf Refusal.Capture 0) + pick (isState s && runPast (lentState s) m ev budget) (2 ^ 63) 0
+unfoldable pub insideAnswer : Profile → List ℕ → List ℕ → List ℕ → ℕ → ℕ
+insideAnswer p s m ev budget =
+    let o = insideOutcome p (lentState s) m ev budget in
+    pick (isState s) (answerOf (o .refusal) (o .steps)) (answerOf Refusal.Capture 0) + pick (isState s && runPast p (lentState s) m ev budget) (2 ^ 63) 0
 
-unfoldable pub insideState : List ℕ → List ℕ → List ℕ → ℕ → List ℕ
-insideState s m ev budget = pick (isState s) (stored s (insideOutcome (lentState s) m ev budget)) s
+unfoldable pub insideState : Profile → List ℕ → List ℕ → List ℕ → ℕ → List ℕ
+insideState p s m ev budget = pick (isState s) (stored s (insideOutcome p (lentState s) m ev budget)) s
 
-unfoldable pub insideLent : List ℕ → List ℕ → List ℕ → ℕ → List ℕ
-insideLent s m ev budget = pick (isState s) (insideMemory (lentState s) m ev budget) m
+unfoldable pub insideLent : Profile → List ℕ → List ℕ → List ℕ → ℕ → List ℕ
+insideLent p s m ev budget = pick (isState s) (insideMemory p (lentState s) m ev budget) m
 
-unfoldable pub stepAnswer : List ℕ → List ℕ → ℕ → ℕ
-stepAnswer s m e =
-    let o = stepOutcome (lentState s) m e in
+unfoldable pub stepAnswer : Profile → List ℕ → List ℕ → ℕ → ℕ
+stepAnswer p s m e =
+    let o = stepOutcome p (lentState s) m e in
     pick (isState s) (answerOf (o .refusal) (o .steps)) (answerOf Refusal.Capture 0)
 
-unfoldable pub stepState : List ℕ → List ℕ → ℕ → List ℕ
-stepState s m e = pick (isState s) (stored s (stepOutcome (lentState s) m e)) s
+unfoldable pub stepState : Profile → List ℕ → List ℕ → ℕ → List ℕ
+stepState p s m e = pick (isState s) (stored s (stepOutcome p (lentState s) m e)) s
 
-unfoldable pub stepLent : List ℕ → List ℕ → ℕ → List ℕ
-stepLent s m e = pick (isState s) (stepMemory (lentState s) m e) m
+unfoldable pub stepLent : Profile → List ℕ → List ℕ → ℕ → List ℕ
+stepLent p s m e = pick (isState s) (stepMemory p (lentState s) m e) m

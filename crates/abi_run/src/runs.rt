@@ -6,6 +6,7 @@ ghost use Rattle.memory.specs.Access.{pick};
 ghost use Rattle.abi.specs.Answer.{answerOf};
 ghost use Rattle.abi_run.specs.Runs.{stored, runAnswer, runState, runLent, reachAnswer, insideAnswer, insideState, insideLent, stepAnswer, stepState, stepLent};
 use abi::answer::answer;
+use insn::profile::Profile;
 use machine::refusal::Refusal;
 use machine::refusal::accepts;
 use run::outcome::Outcome;
@@ -41,30 +42,25 @@ fn settle_reached(state: &mut [u8], reached: Reached) -> u64
 }
 
 // A run. The state is 36 big-endian words in capture order.
-pub fn run(state: &mut [u8], memory: &mut [u8], events: &[u8], budget: u32) -> u64
-    ensures { λ r. ⌜ (r ≡ runAnswer (now (state .entry)) (now (memory .entry)) (now (events .entry)) budget) × ((now (state .exit) ≡ runState (now (state .entry)) (now (memory .entry)) (now (events .entry)) budget) × (now (memory .exit) ≡ runLent (now (state .entry)) (now (memory .entry)) (now (events .entry)) budget)) ⌝ }
+pub fn run(profile: Profile, state: &mut [u8], memory: &mut [u8], events: &[u8], budget: u32) -> u64
+    ensures { λ r. ⌜ (r ≡ runAnswer profile (now (state .entry)) (now (memory .entry)) (now (events .entry)) budget) × ((now (state .exit) ≡ runState profile (now (state .entry)) (now (memory .entry)) (now (events .entry)) budget) × (now (memory .exit) ≡ runLent profile (now (state .entry)) (now (memory .entry)) (now (events .entry)) budget)) ⌝ }
 {
     if state.len() != 144 {
         return answer(Refusal::Capture, 0);
     }
     let start = capture::words::state_at(&state[..], 0);
-    settle(state, run::run::run(start, memory, events, budget))
+    settle(state, run::run::run(profile, start, memory, events, budget))
 }
 
 // The same run, and 2^63 if it reached past its memory.
-pub fn run_reach(state: &mut [u8], memory: &mut [u8], events: &[u8], budget: u32) -> u64
-    ensures { λ r. ⌜ (r ≡ reachAnswer (now (state .entry)) (now (memory .entry)) (now (events .entry)) budget) × ((now (state .exit) ≡ runState (now (state .entry)) (now (memory .entry)) (now (events .entry)) budget) × (now (memory .exit) ≡ runLent (now (state .entry)) (now (memory .entry)) (now (events .entry)) budget)) ⌝ }
-{
-    if state.len() != 144 {
-        return answer(Refusal::Capture, 0);
-    }
-    let start = capture::words::state_at(&state[..], 0);
-    settle_reached(state, run::reach::run_reach(start, memory, events, budget))
-}
-
-// The run that ends with the first step that reaches past its memory, and then 2^63.
-pub fn run_inside(state: &mut [u8], memory: &mut [u8], events: &[u8], budget: u32) -> u64
-    ensures { λ r. ⌜ (r ≡ insideAnswer (now (state .entry)) (now (memory .entry)) (now (events .entry)) budget) × ((now (state .exit) ≡ insideState (now (state .entry)) (now (memory .entry)) (now (events .entry)) budget) × (now (memory .exit) ≡ insideLent (now (state .entry)) (now (memory .entry)) (now (events .entry)) budget)) ⌝ }
+pub fn run_reach(
+    profile: Profile,
+    state: &mut [u8],
+    memory: &mut [u8],
+    events: &[u8],
+    budget: u32,
+) -> u64
+    ensures { λ r. ⌜ (r ≡ reachAnswer profile (now (state .entry)) (now (memory .entry)) (now (events .entry)) budget) × ((now (state .exit) ≡ runState profile (now (state .entry)) (now (memory .entry)) (now (events .entry)) budget) × (now (memory .exit) ≡ runLent profile (now (state .entry)) (now (memory .entry)) (now (events .entry)) budget)) ⌝ }
 {
     if state.len() != 144 {
         return answer(Refusal::Capture, 0);
@@ -72,17 +68,37 @@ pub fn run_inside(state: &mut [u8], memory: &mut [u8], events: &[u8], budget: u3
     let start = capture::words::state_at(&state[..], 0);
     settle_reached(
         state,
-        run::inside::run_inside(start, memory, events, budget),
+        run::reach::run_reach(profile, start, memory, events, budget),
     )
 }
 
-// One step, with its event byte.
-pub fn step(state: &mut [u8], memory: &mut [u8], event: u8) -> u64
-    ensures { λ r. ⌜ (r ≡ stepAnswer (now (state .entry)) (now (memory .entry)) event) × ((now (state .exit) ≡ stepState (now (state .entry)) (now (memory .entry)) event) × (now (memory .exit) ≡ stepLent (now (state .entry)) (now (memory .entry)) event)) ⌝ }
+// The run that ends with the first step that reaches past its memory, and then 2^63.
+pub fn run_inside(
+    profile: Profile,
+    state: &mut [u8],
+    memory: &mut [u8],
+    events: &[u8],
+    budget: u32,
+) -> u64
+    ensures { λ r. ⌜ (r ≡ insideAnswer profile (now (state .entry)) (now (memory .entry)) (now (events .entry)) budget) × ((now (state .exit) ≡ insideState profile (now (state .entry)) (now (memory .entry)) (now (events .entry)) budget) × (now (memory .exit) ≡ insideLent profile (now (state .entry)) (now (memory .entry)) (now (events .entry)) budget)) ⌝ }
 {
     if state.len() != 144 {
         return answer(Refusal::Capture, 0);
     }
     let start = capture::words::state_at(&state[..], 0);
-    settle(state, run::run::step(start, memory, event))
+    settle_reached(
+        state,
+        run::inside::run_inside(profile, start, memory, events, budget),
+    )
+}
+
+// One step, with its event byte.
+pub fn step(profile: Profile, state: &mut [u8], memory: &mut [u8], event: u8) -> u64
+    ensures { λ r. ⌜ (r ≡ stepAnswer profile (now (state .entry)) (now (memory .entry)) event) × ((now (state .exit) ≡ stepState profile (now (state .entry)) (now (memory .entry)) event) × (now (memory .exit) ≡ stepLent profile (now (state .entry)) (now (memory .entry)) event)) ⌝ }
+{
+    if state.len() != 144 {
+        return answer(Refusal::Capture, 0);
+    }
+    let start = capture::words::state_at(&state[..], 0);
+    settle(state, run::run::step(profile, start, memory, event))
 }

@@ -3,6 +3,7 @@ use Prim.Native.Nat.{ℕ, _+_, _*_, _^_}
 use mathlib.Core.Bool.{_&&_}
 use mathlib.Core.List.{List}
 use Rattle.memory.specs.Access.{pick}
+use Rattle.insn.specs.declared.profile.Profile.{Profile}
 use Rattle.machine.specs.Refusal.{acceptsOf}
 use Rattle.machine.specs.declared.refusal.Refusal.{Refusal}
 use Rattle.tell.specs.Told.{toldOf, codeOf}
@@ -12,10 +13,10 @@ use Rattle.run.specs.Outcome.{stepRefusal}
 use Rattle.abi.specs.Answer.{answerOf, isState, lentState}
 
 -- what the step would do, as a count; refused, none
-unfoldable pub tellAnswer : List ℕ → List ℕ → ℕ → ℕ
-tellAnswer s m e =
-    let r = stepRefusal (lentState s) m e in
-    pick (isState s) (answerOf r (pick (acceptsOf r) (codeOf (toldOf (lentState s) m e)) 0)) (answerOf Refusal.Capture 0)
+unfoldable pub tellAnswer : Profile → List ℕ → List ℕ → ℕ → ℕ
+tellAnswer p s m e =
+    let r = stepRefusal p (lentState s) m e in
+    pick (isState s) (answerOf r (pick (acceptsOf r) (codeOf (toldOf p (lentState s) m e)) 0)) (answerOf Refusal.Capture 0)
 
 -- the first address below, the bytes above, and 2^63 for a write
 abbrev pub packedOf : Use → ℕ
@@ -24,5 +25,5 @@ packedOf (Use.Reads a n) = n * 2 ^ 32 + a
 packedOf (Use.Writes a n) = 2 ^ 63 + (n * 2 ^ 32 + a)
 
 -- the data access that the step would try; refused, none
-unfoldable pub accessAnswer : List ℕ → List ℕ → ℕ → ℕ
-accessAnswer s m e = pick (isState s && acceptsOf (stepRefusal (lentState s) m e)) (packedOf (useOf (lentState s) m e)) 0
+unfoldable pub accessAnswer : Profile → List ℕ → List ℕ → ℕ → ℕ
+accessAnswer p s m e = pick (isState s && acceptsOf (stepRefusal p (lentState s) m e)) (packedOf (useOf p (lentState s) m e)) 0

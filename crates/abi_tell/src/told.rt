@@ -2,21 +2,22 @@
 ghost use mathlib.Core.Path.{_≡_};
 ghost use Rattle.abi_tell.specs.Told.{tellAnswer, packedOf, accessAnswer};
 use abi::answer::answer;
+use insn::profile::Profile;
 use machine::refusal::Refusal;
 use machine::refusal::accepts;
 use tell::uses::Use;
 
 // What that step would do, by its number.
-pub fn tell(state: &[u8], memory: &[u8], event: u8) -> u64
-    ensures { λ r. ⌜ r ≡ tellAnswer (now (state .entry)) (now (memory .entry)) event ⌝ }
+pub fn tell(profile: Profile, state: &[u8], memory: &[u8], event: u8) -> u64
+    ensures { λ r. ⌜ r ≡ tellAnswer profile (now (state .entry)) (now (memory .entry)) event ⌝ }
 {
     if state.len() != 144 {
         return answer(Refusal::Capture, 0);
     }
     let start = capture::words::state_at(state, 0);
-    let refusal = run::outcome::step_refusal(start, memory, event);
+    let refusal = run::outcome::step_refusal(profile, start, memory, event);
     if accepts(refusal) {
-        let told = tell::told::tell(start, memory, event);
+        let told = tell::told::tell(profile, start, memory, event);
         return answer(refusal, tell::told::code(told));
     }
     answer(refusal, 0)
@@ -36,16 +37,16 @@ fn pack(access: Use) -> u64
 }
 
 // The data access that it would try.
-pub fn access(state: &[u8], memory: &[u8], event: u8) -> u64
-    ensures { λ r. ⌜ r ≡ accessAnswer (now (state .entry)) (now (memory .entry)) event ⌝ }
+pub fn access(profile: Profile, state: &[u8], memory: &[u8], event: u8) -> u64
+    ensures { λ r. ⌜ r ≡ accessAnswer profile (now (state .entry)) (now (memory .entry)) event ⌝ }
 {
     if state.len() != 144 {
         return 0;
     }
     let start = capture::words::state_at(state, 0);
-    let refusal = run::outcome::step_refusal(start, memory, event);
+    let refusal = run::outcome::step_refusal(profile, start, memory, event);
     if accepts(refusal) {
-        return pack(tell::uses::used(start, memory, event));
+        return pack(tell::uses::used(profile, start, memory, event));
     }
     0
 }

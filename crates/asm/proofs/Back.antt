@@ -9,6 +9,7 @@ use lib.ListN.{length, getD, length-append}
 use borrow.Author.Tests.{lt-ltb, le-ltb, le-leb, leb-true, eq-eqb, ne-eqb}
 use Rattle.word.proofs.Truth.{and-left, and-right}
 use Rattle.insn.specs.Valid.{validOf}
+use Rattle.insn.specs.declared.profile.Profile.{Profile}
 use Rattle.insn.specs.declared.instr.Instr.{Instr}
 use Rattle.expr.specs.Grammar.{Expr, Prod, Fac, pick, isDigit, allDigits, textE, InE, in-only, in-one, in-num, in-minus}
 use Rattle.expr.specs.Evaluate.{negated, digitOf, digitsValue, evalE}
@@ -24,6 +25,7 @@ use Rattle.syntax.specs.Rows.{samples, samplesA, samplesB, samplesC, samplesD, 
 use Rattle.syntax.specs.Inside.{wideItem, wide}
 use Rattle.syntax.specs.declared.field.Field.{Field}
 use Rattle.syntax.proofs.Printing.{decimal-length, signed-length}
+use Rattle.syntax.proofs.Spelled.{spelled-42x}
 use Rattle.syntax.proofs.Samples.{sample-shape, sample-at, row-in}
 use Rattle.asm.proofs.Filled.{sizeOf, Fit, fit-written}
 
@@ -234,16 +236,16 @@ slim-pick : (b : Bool) (is js : List Instr) → slim is ≡ true → slim js ≡
 slim-pick true is js s t = s
 slim-pick false is js s t = t
 
-slim-samples : (c : ℕ) → slim (samples c) ≡ true
+slim-samples : (c : ℕ) → slim (samples Profile.Ppe42x c) ≡ true
 unfolding slim samples samplesA samplesB samplesC samplesD samplesE samplesL samplesM samplesN samplesO samplesR samplesS samplesT samplesW samplesX wide shapeOf itemsOf spelt commas letters bytes
 slim-samples c =
     let s = slim-pick in
     s (eqb c 97) samplesA _ refl (s (eqb c 98) samplesB _ refl (s (eqb c 99) samplesC _ refl (s (eqb c 100) samplesD _ refl (s (eqb c 101) samplesE _ refl
-    (s (eqb c 108) samplesL _ refl (s (eqb c 109) samplesM _ refl (s (eqb c 110) samplesN _ refl (s (eqb c 111) samplesO _ refl (s (eqb c 114) samplesR _ refl
+    (s (eqb c 108) samplesL _ refl (s (eqb c 109) (samplesM Profile.Ppe42x) _ refl (s (eqb c 110) samplesN _ refl (s (eqb c 111) samplesO _ refl (s (eqb c 114) (samplesR Profile.Ppe42x) _ refl
     (s (eqb c 115) samplesS _ refl (s (eqb c 116) samplesT _ refl (s (eqb c 119) samplesW _ refl (s (eqb c 120) samplesX [] refl refl)))))))))))))
 
 pub line-length : (i : Instr) → length (lineOf i) ≤ 64
 unfolding lineOf shapeOf
 line-length i =
-    let w : wide (shapeOf i) ≤ 64 = rw (sample-shape i, ← (sample-at i i)) (slim-at _ _ _ (row-in i) (slim-samples (rowOf i .letter))) in
+    let w : wide (shapeOf i) ≤ 64 = rw (sample-shape i, ← (sample-at Profile.Ppe42x i i (spelled-42x i))) (slim-at _ _ _ (row-in Profile.Ppe42x i (spelled-42x i)) (slim-samples (rowOf i .letter))) in
     omega (arith, texts-length (written i))

@@ -11,6 +11,7 @@ use lib.ListN.{length, length-append}
 use Rattle.expr.specs.Grammar.{Expr, Prod, Fac, textE, textP, textF, signByte, prefixOf, pick}
 use Rattle.expr.specs.Evaluate.{inRange, negated, both, joinZ, joined, multiplied, digitsValue, evalE, evalP, evalF}
 use Rattle.expr.specs.declared.Value.{Value}
+use Rattle.insn.specs.declared.profile.Profile.{Profile}
 use Rattle.syntax.specs.Syntax.{Range, signed, unsigned, target, Item, lit, reg, zreg, num}
 use Rattle.syntax.specs.Line.{Part, byte, register, zero as lone, value, textOf, texts, Has}
 use Rattle.syntax.specs.Worth.{below, signedCode, unsignedCode, targetCode, codeOf, registerField, numberField, fieldOf, kept, fieldsFrom, First, none, at, orElse, firstOff}
@@ -141,12 +142,12 @@ within (num r ∷ xs) (p ∷ ps) i k e =
     let n : length (textOf p ++ texts ps) ≡ length (textOf p) + length (texts ps) = length-append (textOf p) (texts ps) in
     ⊎-elim (λ q. omega (arith, n, number-off r i p k q)) (λ q. omega (arith, n, within xs ps (i + length (textOf p)) k q)) (first-off (numberField r i p) (fieldsFrom (i + length (textOf p)) xs ps) k e)
 
-outside-column : (s : List ℕ) (k : ℕ) (h : Has s) → firstOff (fieldsOf h) ≡ at k → k ≤ length s
-outside-column s k h e = let q : length (texts (h .parts)) ≡ length s = ap length (h .text) in omega (arith, within _ (h .parts) 0 k e)
+outside-column : (p : Profile) (s : List ℕ) (k : ℕ) (h : Has p s) → firstOff (fieldsOf h) ≡ at k → k ≤ length s
+outside-column p s k h e = let q : length (texts (h .parts)) ≡ length s = ap length (h .text) in omega (arith, within _ (h .parts) 0 k e)
 
 -- the column and the number of every answer are small
-pub answer-small : (s : List ℕ) (r : Assembled) → Answer s r → (r .column ≤ 256) × (r .refusal ≤ 12)
-answer-small s r (accepted i l p v) = (omega arith, omega arith)
-answer-small s r (answer-stopped k p) = (p .most, omega arith)
-answer-small s r (outside k l h e) = (omega (arith, outside-column s k h e), omega arith)
-answer-small s r (invalid l h e n) = (omega arith, omega arith)
+pub answer-small : (p : Profile) (s : List ℕ) (r : Assembled) → Answer p s r → (r .column ≤ 256) × (r .refusal ≤ 12)
+answer-small p s r (accepted i l x v) = (omega arith, omega arith)
+answer-small p s r (answer-stopped k x) = (x .most, omega arith)
+answer-small p s r (outside k l h e) = (omega (arith, outside-column p s k h e), omega arith)
+answer-small p s r (invalid l h e n) = (omega arith, omega arith)

@@ -4,13 +4,15 @@ use native.Mathlib.Omega.{arith}
 use native.Mathlib.Decide.{decLe}
 use native.Mathlib.Nat.{lt-of-not-le, mod-eq-of-lt}
 use mathlib.Core.Path.{_≡_, refl, sym, ap, _∙_}
-use mathlib.Core.Bool.{Bool, true, false}
+use mathlib.Core.Bool.{Bool, true, false, _||_}
+use mathlib.Core.Logic.{⊎-elim}
 use mathlib.Core.List.{List, [], _∷_, _++_}
-use lib.Dec.{eqb, ltb}
+use lib.Dec.{eqb, ltb, lit≤}
+use Rattle.expr.proofs.Cases.{or-true}
 use borrow.Author.Tests.{ltb-true, eqb-true, ne-eqb}
 use Rattle.word.specs.Bits.{digit}
 use Rattle.word.proofs.Truth.{never, and-left, and-right}
-use Rattle.insn.specs.Valid.{validOf, isSpr, isTo}
+use Rattle.insn.specs.Valid.{validOf, isSpr, isTo, trapForm, markForm}
 use Rattle.insn.proofs.Round.{reg-lt}
 use Rattle.insn.specs.declared.instr.Instr.{Instr}
 use Rattle.insn.specs.declared.instr.Arithmetic.{Arithmetic}
@@ -93,6 +95,9 @@ eight-4 n h = mod-eq-of-lt (omega arith)
 eight-32 : (n : ℕ) → n < 32 → n % 0x100 ≡ n
 eight-32 n h = mod-eq-of-lt (omega arith)
 
+eight-64 : (n : ℕ) → n < 64 → n % 0x100 ≡ n
+eight-64 n h = mod-eq-of-lt (omega arith)
+
 sixteen-32 : (n : ℕ) → n < 32 → n % 0x1_0000 ≡ n
 sixteen-32 n h = mod-eq-of-lt (omega arith)
 
@@ -113,13 +118,17 @@ bit-is (suc (suc n)) h = let z : ⊥ = omega arith in absurd z
 zero-is : (n : ℕ) → eqb n 0 ≡ true → 0 ≡ n
 zero-is n h = sym (eqb-true n 0 h)
 
-ruleset uncut = (eight-4, eight-32, sixteen-32, sixteen-1024, sixteen-14, sixteen-16, bit-is)
+ruleset uncut = (eight-4, eight-32, eight-64, sixteen-32, sixteen-1024, sixteen-14, sixteen-16, bit-is)
 
 ruleset orders = (reg-lt, spr-lt, to-lt, ltb-true, and-left, and-right)
 
 ruleset within = (orders, arith)
 
 ruleset back = (uncut, orders, zero-is)
+
+-- with TG the fields of tw hold anything that they have room for
+trap-lt : (to ra rb : ℕ) → (markForm to ra rb true || trapForm to ra rb) ≡ true → (to < 32) × (ra < 32) × (rb < 32)
+trap-lt to ra rb v = ⊎-elim (λ h. search orders) (λ h. search orders) (or-true (markForm to ra rb true) (trapForm to ra rb) v)
 
 -- a valid instruction's operands are within their fields, and filled with them its sample is that instruction
 good : (i : Instr) → validOf i ≡ true → Fit (written i) × (plain i ≡ true → filledWith (sampleOf i) (codes (written i)) ≡ i)
@@ -132,6 +141,8 @@ good (Instr.Arithmetic (Arithmetic.Immediate ArithImmOp.Subfic rt ra si)) v = (f
 good (Instr.Arithmetic (Arithmetic.Register op rt ra rb oe rc)) v = (fit _ _ _ (search within), λ p. simp codes-are (search back))
 good (Instr.Arithmetic (Arithmetic.One op rt ra oe rc)) v = (fit _ _ _ (search within), λ p. simp codes-are (search back))
 good (Instr.Arithmetic (Arithmetic.Multiply sign rt ra rb rc)) v = (fit _ _ _ (search within), λ p. simp codes-are (search back))
+good (Instr.Arithmetic (Arithmetic.MultiplyImm rt ra si)) v = (fit _ _ _ (search within), λ p. simp codes-are (search back))
+good (Instr.Arithmetic (Arithmetic.MultiplyLow rt ra rb oe rc)) v = (fit _ _ _ (search within), λ p. simp codes-are (search back))
 good (Instr.Logical (Logical.Immediate op rs ra ui)) v = (fit _ _ _ (search within), λ p. simp codes-are (search back))
 good (Instr.Logical (Logical.Register op rs ra rb rc)) v = (fit _ _ _ (search within), λ p. simp codes-are (search back))
 good (Instr.Logical (Logical.One op rs ra rc)) v = (fit _ _ _ (search within), λ p. simp codes-are (search back))
@@ -142,6 +153,7 @@ good (Instr.Rotate (Rotate.Immediate op rs ra sh mb me rc)) v = (fit _ _ _ (sear
 good (Instr.Rotate (Rotate.Register rs ra rb mb me rc)) v = (fit _ _ _ (search within), λ p. simp codes-are (search back))
 good (Instr.Rotate (Rotate.Shift op rs ra rb rc)) v = (fit _ _ _ (search within), λ p. simp codes-are (search back))
 good (Instr.Rotate (Rotate.Srawi rs ra sh rc)) v = (fit _ _ _ (search within), λ p. simp codes-are (search back))
+good (Instr.Rotate (Rotate.Double op ds da sh mb rc)) v = (fit _ _ _ (search within), λ p. simp codes-are (search back))
 good (Instr.LoadStore (LoadStore.Load width true rt ra d)) v = (fit _ _ _ (search within), λ p. simp codes-are (search back))
 good (Instr.LoadStore (LoadStore.Load width false rt ra d)) v = (fit _ _ _ (search within), λ p. simp codes-are (search back))
 good (Instr.LoadStore (LoadStore.LoadIndexed width rt ra rb)) v = (fit _ _ _ (search within), λ p. simp codes-are (search back))
@@ -156,7 +168,7 @@ good (Instr.Branch (Branch.Always aa lk li)) v = (fit _ _ _ (search within), λ 
 good (Instr.Branch (Branch.Conditional bo bi bd aa lk)) v = (fit _ _ _ (search within), λ p. simp codes-are (search back))
 good (Instr.Branch (Branch.Register op bo bi bh lk)) v = (fit _ _ _ (search within), λ p. simp codes-are (search back))
 good (Instr.Trap to ra rb false) v = (fit _ _ _ (search within), λ p. simp codes-are (search back))
-good (Instr.Trap to ra rb true) v = (fit _ _ _ (search within), λ p. never (sym p))
+good (Instr.Trap to ra rb true) v = let t = trap-lt to ra rb v in (fit _ _ _ (t .0, lit≤ tt, (t .1, (t .2, tt))), λ p. never (sym p))
 good (Instr.System (System.Spr SprOp.Mfspr rt spr)) v = (fit _ _ _ (search within), λ p. simp codes-are (search back))
 good (Instr.System (System.Spr SprOp.Mtspr rt spr)) v = (fit _ _ _ (search within), λ p. simp codes-are (search back))
 good (Instr.System (System.Move op rt)) v = (fit _ _ _ (search within), λ p. simp codes-are (search back))
@@ -181,6 +193,8 @@ fill-sample (Instr.Arithmetic (Arithmetic.Immediate op rt ra si)) o = refl
 fill-sample (Instr.Arithmetic (Arithmetic.Register op rt ra rb oe rc)) o = refl
 fill-sample (Instr.Arithmetic (Arithmetic.One op rt ra oe rc)) o = refl
 fill-sample (Instr.Arithmetic (Arithmetic.Multiply sign rt ra rb rc)) o = refl
+fill-sample (Instr.Arithmetic (Arithmetic.MultiplyImm rt ra si)) o = refl
+fill-sample (Instr.Arithmetic (Arithmetic.MultiplyLow rt ra rb oe rc)) o = refl
 fill-sample (Instr.Logical (Logical.Immediate op rs ra ui)) o = refl
 fill-sample (Instr.Logical (Logical.Register op rs ra rb rc)) o = refl
 fill-sample (Instr.Logical (Logical.One op rs ra rc)) o = refl
@@ -190,6 +204,7 @@ fill-sample (Instr.Rotate (Rotate.Immediate op rs ra sh mb me rc)) o = refl
 fill-sample (Instr.Rotate (Rotate.Register rs ra rb mb me rc)) o = refl
 fill-sample (Instr.Rotate (Rotate.Shift op rs ra rb rc)) o = refl
 fill-sample (Instr.Rotate (Rotate.Srawi rs ra sh rc)) o = refl
+fill-sample (Instr.Rotate (Rotate.Double op ds da sh mb rc)) o = refl
 fill-sample (Instr.LoadStore (LoadStore.Load width update rt ra d)) o = refl
 fill-sample (Instr.LoadStore (LoadStore.LoadIndexed width rt ra rb)) o = refl
 fill-sample (Instr.LoadStore (LoadStore.Store width update rs ra d)) o = refl
@@ -272,6 +287,8 @@ fill-codes (Instr.Arithmetic (Arithmetic.Immediate ArithImmOp.Subfic rt ra si)) 
 fill-codes (Instr.Arithmetic (Arithmetic.Register op rt ra rb oe rc)) = bounded _ _ _ _ (λ a ua b ub c uc. simp codes-are (search uncut))
 fill-codes (Instr.Arithmetic (Arithmetic.One op rt ra oe rc)) = bounded _ _ _ _ (λ a ua b ub. simp codes-are (search uncut))
 fill-codes (Instr.Arithmetic (Arithmetic.Multiply sign rt ra rb rc)) = bounded _ _ _ _ (λ a ua b ub c uc. simp codes-are (search uncut))
+fill-codes (Instr.Arithmetic (Arithmetic.MultiplyImm rt ra si)) = bounded _ _ _ _ (λ a ua b ub c uc. simp codes-are (search uncut))
+fill-codes (Instr.Arithmetic (Arithmetic.MultiplyLow rt ra rb oe rc)) = bounded _ _ _ _ (λ a ua b ub c uc. simp codes-are (search uncut))
 fill-codes (Instr.Logical (Logical.Immediate op rs ra ui)) = bounded _ _ _ _ (λ a ua b ub c uc. simp codes-are (search uncut))
 fill-codes (Instr.Logical (Logical.Register op rs ra rb rc)) = bounded _ _ _ _ (λ a ua b ub c uc. simp codes-are (search uncut))
 fill-codes (Instr.Logical (Logical.One op rs ra rc)) = bounded _ _ _ _ (λ a ua b ub. simp codes-are (search uncut))
@@ -282,6 +299,7 @@ fill-codes (Instr.Rotate (Rotate.Immediate op rs ra sh mb me rc)) = bounded _ _ 
 fill-codes (Instr.Rotate (Rotate.Register rs ra rb mb me rc)) = bounded _ _ _ _ (λ a ua b ub c uc d ud e ue. simp codes-are (search uncut))
 fill-codes (Instr.Rotate (Rotate.Shift op rs ra rb rc)) = bounded _ _ _ _ (λ a ua b ub c uc. simp codes-are (search uncut))
 fill-codes (Instr.Rotate (Rotate.Srawi rs ra sh rc)) = bounded _ _ _ _ (λ a ua b ub c uc. simp codes-are (search uncut))
+fill-codes (Instr.Rotate (Rotate.Double op ds da sh mb rc)) = bounded _ _ _ _ (λ a ua b ub c uc d ud. simp codes-are (search uncut))
 fill-codes (Instr.LoadStore (LoadStore.Load width true rt ra d)) = bounded _ _ _ _ (λ a ua b ub c uc. simp codes-are (search uncut))
 fill-codes (Instr.LoadStore (LoadStore.Load width false rt ra d)) = bounded _ _ _ _ (λ a ua b ub c uc. simp codes-are (search uncut))
 fill-codes (Instr.LoadStore (LoadStore.LoadIndexed width rt ra rb)) = bounded _ _ _ _ (λ a ua b ub c uc. simp codes-are (search uncut))

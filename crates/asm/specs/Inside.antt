@@ -4,7 +4,8 @@ use Prim.Native.Nat.{ℕ, _%_}
 use mathlib.Core.Path.{_≡_}
 use mathlib.Core.List.{List, [], _∷_}
 use lib.Dec.{eqb}
-use Rattle.insn.specs.Write.{writtenOf}
+use Rattle.insn.specs.Write.{writtenOn}
+use Rattle.insn.specs.declared.profile.Profile.{Profile}
 use Rattle.insn.specs.declared.instr.Decoded.{Decoded}
 use Rattle.insn.specs.declared.instr.Written.{Written}
 use Rattle.insn.specs.declared.instr.Instr.{Instr}
@@ -27,9 +28,9 @@ use Rattle.asm.specs.declared.assemble.Assembled.{Assembled}
 use Rattle.syntax.specs.Inside.{WithRows}
 
 -- the first byte of a line chooses the rows
-unfoldable pub Placed : List ℕ → Done → Type 0
-Placed [] r = r ≡ Done.Bad 0
-Placed (c ∷ s) r = WithRows (samples c) Job.Read (c ∷ s) [] [] r
+unfoldable pub Placed : Profile → List ℕ → Done → Type 0
+Placed p [] r = r ≡ Done.Bad 0
+Placed p (c ∷ s) r = WithRows (samples p c) Job.Read (c ∷ s) [] [] r
 
 -- what the operands come to, left to right
 abbrev pub afterOf : Check → Field → Check
@@ -64,6 +65,8 @@ filledArithmetic (Arithmetic.Immediate op rt ra si) o = Arithmetic.Immediate op 
 filledArithmetic (Arithmetic.Register op rt ra rb oe rc) o = Arithmetic.Register op (eightOf (o .c)) (eightOf (o .b)) (eightOf (o .a)) oe rc
 filledArithmetic (Arithmetic.One op rt ra oe rc) o = Arithmetic.One op (eightOf (o .b)) (eightOf (o .a)) oe rc
 filledArithmetic (Arithmetic.Multiply sign rt ra rb rc) o = Arithmetic.Multiply sign (eightOf (o .c)) (eightOf (o .b)) (eightOf (o .a)) rc
+filledArithmetic (Arithmetic.MultiplyImm rt ra si) o = Arithmetic.MultiplyImm (eightOf (o .c)) (eightOf (o .b)) (sixteenOf (o .a))
+filledArithmetic (Arithmetic.MultiplyLow rt ra rb oe rc) o = Arithmetic.MultiplyLow (eightOf (o .c)) (eightOf (o .b)) (eightOf (o .a)) oe rc
 
 abbrev pub filledLogical : Logical → Codes → Logical
 filledLogical (Logical.Immediate op rs ra ui) o = Logical.Immediate op (eightOf (o .b)) (eightOf (o .c)) (sixteenOf (o .a))
@@ -79,6 +82,7 @@ filledRotate (Rotate.Immediate op rs ra sh mb me rc) o = Rotate.Immediate op (ei
 filledRotate (Rotate.Register rs ra rb mb me rc) o = Rotate.Register (eightOf (o .d)) (eightOf (o .e)) (eightOf (o .c)) (eightOf (o .b)) (eightOf (o .a)) rc
 filledRotate (Rotate.Shift op rs ra rb rc) o = Rotate.Shift op (eightOf (o .b)) (eightOf (o .c)) (eightOf (o .a)) rc
 filledRotate (Rotate.Srawi rs ra sh rc) o = Rotate.Srawi (eightOf (o .b)) (eightOf (o .c)) (eightOf (o .a)) rc
+filledRotate (Rotate.Double op ds da sh mb rc) o = Rotate.Double op (eightOf (o .c)) (eightOf (o .d)) (eightOf (o .b)) (eightOf (o .a)) rc
 
 abbrev pub filledLoadStore : LoadStore → Codes → LoadStore
 filledLoadStore (LoadStore.Load width update rt ra d) o = LoadStore.Load width update (eightOf (o .c)) (eightOf (o .a)) (sixteenOf (o .b))
@@ -122,11 +126,11 @@ refusedWith n k = record { refusal = n; column = k; word = 0 }
 abbrev pub assembledOf : Written → Assembled
 assembledOf w = record { refusal = w .refusal; column = 0; word = w .word }
 
-abbrev pub encodedOf : Decoded → Operands → Assembled
-encodedOf Decoded.Illegal o = refusedWith 6 0
-encodedOf (Decoded.Insn i) o = assembledOf (writtenOf (filled i (codesIn o)))
+abbrev pub encodedOf : Profile → Decoded → Operands → Assembled
+encodedOf p Decoded.Illegal o = refusedWith 6 0
+encodedOf p (Decoded.Insn i) o = assembledOf (writtenOn p (filled i (codesIn o)))
 
-abbrev pub settledOf : Check → Decoded → Operands → Assembled
-settledOf (Check.Off k) d o = refusedWith 12 k
-settledOf Check.Unfit d o = refusedWith 6 0
-settledOf Check.Fine d o = encodedOf d o
+abbrev pub settledOf : Profile → Check → Decoded → Operands → Assembled
+settledOf p (Check.Off k) d o = refusedWith 12 k
+settledOf p Check.Unfit d o = refusedWith 6 0
+settledOf p Check.Fine d o = encodedOf p d o

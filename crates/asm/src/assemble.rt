@@ -1,14 +1,15 @@
-// A line as its word, or refused: 11 and the column where no line of the grammar goes on; 12 and the start of the first value
+// A line as a core's word, or refused: 11 and the column where no line of its grammar goes on; 12 and the start of the first value
 // outside -2^31 to 2^31 - 1; 6 for operands.
 ghost use mathlib.Core.Path.{_≡_};
 ghost use lib.ListN.{length};
 ghost use Prim.Native.Nat.{_≤_, _<_};
-ghost use Rattle.insn.specs.Read.{decodeOf};
+ghost use Rattle.insn.specs.Read.{decodeOn};
 ghost use Rattle.asm.specs.Answer.{Answer};
 ghost use Rattle.asm.specs.Inside.{refusedWith, afterOf, checkedOf, encodedOf, settledOf, Placed};
 use crate::fill::codes_of;
 use crate::fill::fill;
 use insn::instr::Decoded;
+use insn::profile::Profile;
 use syntax::field::Field;
 use syntax::line::Operands;
 use syntax::table::Done;
@@ -69,14 +70,14 @@ fn check_all(o: Operands) -> Check
 }
 
 // The instruction of a row with the line's operands, written.
-fn encode(word: u32, o: Operands) -> Assembled
-    ensures { λ r. ⌜ r ≡ encodedOf (decodeOf word) o ⌝ }
+fn encode(profile: Profile, word: u32, o: Operands) -> Assembled
+    ensures { λ r. ⌜ r ≡ encodedOf profile (decodeOn profile word) o ⌝ }
 {
-    let what = insn::read::read(word);
+    let what = insn::read::read(profile, word);
     match what {
         Decoded::Illegal => refused(6, 0),
         Decoded::Insn(i) => {
-            let written = insn::write::write(fill(i, codes_of(o)));
+            let written = insn::write::write(profile, fill(i, codes_of(o)));
             Assembled {
                 refusal: written.refusal,
                 column: 0,
@@ -86,47 +87,47 @@ fn encode(word: u32, o: Operands) -> Assembled
     }
 }
 
-fn settle(word: u32, o: Operands) -> Assembled
-    ensures { λ r. ⌜ r ≡ settledOf (checkedOf o) (decodeOf word) o ⌝ }
+fn settle(profile: Profile, word: u32, o: Operands) -> Assembled
+    ensures { λ r. ⌜ r ≡ settledOf profile (checkedOf o) (decodeOn profile word) o ⌝ }
 {
     let checked = check_all(o);
     match checked {
         Check::Off(k) => refused(12, k),
         Check::Unfit => refused(6, 0),
-        Check::Fine => encode(word, o),
+        Check::Fine => encode(profile, word, o),
     }
 }
 
 // By the first byte.
-fn place(line: &[u8]) -> Done
-    ensures { λ r. ⌜ Placed (now (line .entry)) r ⌝ }
+fn place(profile: Profile, line: &[u8]) -> Done
+    ensures { λ r. ⌜ Placed profile (now (line .entry)) r ⌝ }
 {
     let mut nothing = [0u8; 0];
     if line.len() == 0 {
         return Done::Bad(0);
     }
-    at_letter(line[0], Job::Read, line, &mut nothing)
+    at_letter(profile, line[0], Job::Read, line, &mut nothing)
 }
 
 // A line of up to 256 bytes.
-fn short(line: &[u8]) -> Assembled
+fn short(profile: Profile, line: &[u8]) -> Assembled
     requires { ⌜ length (now line) ≤ 256 ⌝ }
-    ensures { λ r. ⌜ Answer (now (line .entry)) r ⌝ }
+    ensures { λ r. ⌜ Answer profile (now (line .entry)) r ⌝ }
 {
-    let found = place(line);
+    let found = place(profile, line);
     match found {
         Done::Bad(k) => refused(11, k),
-        Done::Row(word, o) => settle(word, o),
+        Done::Row(word, o) => settle(profile, word, o),
         Done::Printed(_) => refused(11, 0),
     }
 }
 
 // A longer line, by its first 256 bytes.
-fn long(line: &[u8]) -> Assembled
+fn long(profile: Profile, line: &[u8]) -> Assembled
     requires { ⌜ 256 < length (now line) ⌝ }
-    ensures { λ r. ⌜ Answer (now (line .entry)) r ⌝ }
+    ensures { λ r. ⌜ Answer profile (now (line .entry)) r ⌝ }
 {
-    let found = place(&line[..256]);
+    let found = place(profile, &line[..256]);
     match found {
         Done::Bad(k) => refused(11, k),
         Done::Row(_, _) => refused(11, 256),
@@ -134,12 +135,12 @@ fn long(line: &[u8]) -> Assembled
     }
 }
 
-pub fn assemble(line: &[u8]) -> Assembled
-    ensures { λ r. ⌜ Answer (now (line .entry)) r ⌝ }
+pub fn assemble(profile: Profile, line: &[u8]) -> Assembled
+    ensures { λ r. ⌜ Answer profile (now (line .entry)) r ⌝ }
 {
     if line.len() <= 256 {
-        short(line)
+        short(profile, line)
     } else {
-        long(line)
+        long(profile, line)
     }
 }

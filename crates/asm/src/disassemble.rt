@@ -1,10 +1,11 @@
 // A word as its line.
 ghost use mathlib.Core.Path.{_≡_};
-ghost use Rattle.insn.specs.Read.{decodeOf};
+ghost use Rattle.insn.specs.Read.{decodeOn};
 ghost use Rattle.asm.specs.Listing.{listedOf, listedOut};
 use crate::queue::is_plain;
 use crate::queue::queue_of;
 use insn::instr::Decoded;
+use insn::profile::Profile;
 use syntax::row::row_of;
 use syntax::table::print_row;
 
@@ -16,13 +17,13 @@ pub enum Listed {
     Line { bytes: usize, more: bool },
 }
 
-pub fn disassemble(word: u32, out: &mut [u8]) -> Listed
-    ensures { λ r. ⌜ (r ≡ listedOf (decodeOf word) (now (out .entry))) × (now (out .exit) ≡ listedOut (decodeOf word) (now (out .entry))) ⌝ }
+pub fn disassemble(profile: Profile, word: u32, out: &mut [u8]) -> Listed
+    ensures { λ r. ⌜ (r ≡ listedOf (decodeOn profile word) (now (out .entry))) × (now (out .exit) ≡ listedOut (decodeOn profile word) (now (out .entry))) ⌝ }
 {
     if out.len() < 64 {
         return Listed::Refused;
     }
-    let what = insn::read::read(word);
+    let what = insn::read::read(profile, word);
     match what {
         Decoded::Illegal => Listed::Illegal,
         Decoded::Insn(i) => {

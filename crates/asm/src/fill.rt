@@ -1,6 +1,8 @@
 // An instruction with its operands' fields in place of what it had there.
 ghost use mathlib.Core.Path.{_≡_};
 ghost use Rattle.asm.specs.Inside.{codeIn, codesIn, eightOf, sixteenOf, filled, filledSpr, filledArithmetic, filledLogical, filledCompare, filledRotate, filledLoadStore, filledBranch, filledSystem};
+ghost use Rattle.insn.specs.declared.instr.Arithmetic.{Arithmetic};
+ghost use Rattle.insn.specs.declared.instr.Rotate.{Rotate};
 use insn::instr::*;
 use syntax::field::Field;
 use syntax::line::Operands;
@@ -111,6 +113,30 @@ fn arithmetic(x: Arithmetic, o: Codes) -> Arithmetic
             rb: eight(o.a),
             rc,
         },
+        Arithmetic::MultiplyImm { .. } => multiply_imm(o),
+        Arithmetic::MultiplyLow { oe, rc, .. } => multiply_low(oe, rc, o),
+    }
+}
+
+fn multiply_imm(o: Codes) -> Arithmetic
+    ensures { λ r. ⌜ r ≡ filledArithmetic (Arithmetic.MultiplyImm 0 0 0) o ⌝ }
+{
+    Arithmetic::MultiplyImm {
+        rt: eight(o.c),
+        ra: eight(o.b),
+        si: sixteen(o.a),
+    }
+}
+
+fn multiply_low(oe: bool, rc: bool, o: Codes) -> Arithmetic
+    ensures { λ r. ⌜ r ≡ filledArithmetic (Arithmetic.MultiplyLow 0 0 0 oe rc) o ⌝ }
+{
+    Arithmetic::MultiplyLow {
+        rt: eight(o.c),
+        ra: eight(o.b),
+        rb: eight(o.a),
+        oe,
+        rc,
     }
 }
 
@@ -191,6 +217,20 @@ fn rotate(x: Rotate, o: Codes) -> Rotate
             sh: eight(o.a),
             rc,
         },
+        Rotate::Double { op, rc, .. } => rotate_double(op, rc, o),
+    }
+}
+
+fn rotate_double(op: RotateDoubleOp, rc: bool, o: Codes) -> Rotate
+    ensures { λ r. ⌜ r ≡ filledRotate (Rotate.Double op 0 0 0 0 rc) o ⌝ }
+{
+    Rotate::Double {
+        op,
+        ds: eight(o.c),
+        da: eight(o.d),
+        sh: eight(o.b),
+        mb: eight(o.a),
+        rc,
     }
 }
 

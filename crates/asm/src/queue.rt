@@ -56,6 +56,8 @@ fn arithmetic(x: Arithmetic) -> Queue
         Arithmetic::Register { rt, ra, rb, .. } => three(rt as u32, ra as u32, rb as u32),
         Arithmetic::One { rt, ra, .. } => two(rt as u32, ra as u32),
         Arithmetic::Multiply { rt, ra, rb, .. } => three(rt as u32, ra as u32, rb as u32),
+        Arithmetic::MultiplyImm { rt, ra, si } => three(rt as u32, ra as u32, si as u32),
+        Arithmetic::MultiplyLow { rt, ra, rb, .. } => three(rt as u32, ra as u32, rb as u32),
     }
 }
 
@@ -100,6 +102,13 @@ fn rotate(x: Rotate) -> Queue
         } => five(ra as u32, rs as u32, rb as u32, mb as u32, me as u32),
         Rotate::Shift { rs, ra, rb, .. } => three(ra as u32, rs as u32, rb as u32),
         Rotate::Srawi { rs, ra, sh, .. } => three(ra as u32, rs as u32, sh as u32),
+        Rotate::Double { ds, da, sh, mb, .. } => five(
+            da as u32,
+            ds as u32,
+            sh as u32,
+            mb as u32,
+            0,
+        ),
     }
 }
 

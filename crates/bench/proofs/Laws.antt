@@ -5,6 +5,7 @@ use mathlib.Core.Bool.{Bool, true, false}
 use mathlib.Core.List.{List, []}
 use lib.ListN.{length, take, length-take}
 use Rattle.memory.specs.Access.{pick}
+use Rattle.insn.specs.declared.profile.Profile.{Profile}
 use Rattle.machine.specs.Refusal.{acceptsOf}
 use Rattle.capture.specs.Read.{sizeOf, readRefusal, partOf}
 
@@ -12,6 +13,6 @@ part-cases : (b : Bool) (k : ℕ) (f : List ℕ) → length (pick b (take k f) [
 part-cases true k f = omega (arith, length-take k f)
 part-cases false k f = omega arith
 
-pub part-le : (f : List ℕ) → length (partOf f) ≤ length f
+pub part-le : (p : Profile) (f : List ℕ) → length (partOf p f) ≤ length f
 unfolding partOf
-part-le f = part-cases (acceptsOf (readRefusal f)) (sizeOf f) f
+part-le p f = part-cases (acceptsOf (readRefusal p f)) (sizeOf f) f

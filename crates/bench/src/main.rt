@@ -2,6 +2,7 @@
 ghost use mathlib.Core.Path.{_≡_};
 ghost use Prim.Native.Nat.{_%_};
 ghost use Rattle.bench.specs.Hex.{hexDigit, hexOf};
+use insn::profile::Profile;
 use libc::STDIN_FILENO;
 use libc::STDOUT_FILENO;
 use machine::refusal::accepts;
@@ -50,12 +51,12 @@ fn print_line(steps: u32, halt: u32, iar: u32) {
 
 // The capture is played in its own memory part.
 fn play(file: &mut [u8]) {
-    let start = capture::read::state_of(&file[..]);
+    let start = capture::read::state_of(Profile::Ppe42, &file[..]);
     let refusal = start.refusal;
     if accepts(refusal) {
         let state = start.state;
-        let size = capture::read::memory_part(&file[..]).len();
-        let outcome = run::run::run(state, &mut file[..size], b"", 1000);
+        let size = capture::read::memory_part(Profile::Ppe42, &file[..]).len();
+        let outcome = run::run::run(Profile::Ppe42, state, &mut file[..size], b"", 1000);
         let iar = outcome.state.iar;
         print_line(outcome.steps, outcome.halt, iar);
     } else {

@@ -10,6 +10,7 @@ use Rattle.word.specs.declared.width.Width.{Width}
 use Rattle.memory.specs.Access.{sizedOf}
 use Rattle.memory.specs.Load.{valueAt}
 use Rattle.word.proofs.Truth.{and-true}
+use Rattle.insn.specs.declared.profile.Profile.{Profile}
 use Rattle.machine.specs.declared.state.State.{State}
 use Rattle.machine.specs.declared.refusal.Refusal.{Refusal}
 use Rattle.machine.specs.Refusal.{acceptsOf, unless}
@@ -37,27 +38,27 @@ formed-shows f h =
     record { long = leb-true 188 (length f) (z .0); distance = eqb-true _ 156 (z .1); size = eqb-true _ (sizeOf f) (y .1); form = eqb-true _ 1 (x .1) }
 
 -- a capture that reads
-pub record Reads (f : List ℕ) : Type 0 where
+pub record Reads (p : Profile) (f : List ℕ) : Type 0 where
   pub formed : Formed f
   pub sized : sizedOf (sizeOf f) ≡ true
-  pub state : refusalOf (stateIn f) ≡ Refusal.None
+  pub state : refusalOf p (stateIn f) ≡ Refusal.None
 
-pub read-accepts : (f : List ℕ) → acceptsOf (readRefusal f) ≡ true → Reads f
+pub read-accepts : (p : Profile) (f : List ℕ) → acceptsOf (readRefusal p f) ≡ true → Reads p f
 unfolding readRefusal
-read-accepts f h =
+read-accepts p f h =
     let a = or-accepts (unless (formedOf f) Refusal.Capture) _ h in
-    let b = start-accepts (stateIn f) (sizeOf f) (a .1) in
+    let b = start-accepts p (stateIn f) (sizeOf f) (a .1) in
     record { formed = formed-shows f (unless-accepts _ Refusal.Capture refl (a .0)); sized = b .0; state = b .1 }
 
 -- a state and m bytes of memory that n bytes of output take
-pub record Writes (s : State) (m n : ℕ) : Type 0 where
+pub record Writes (p : Profile) (s : State) (m n : ℕ) : Type 0 where
   pub sized : sizedOf m ≡ true
-  pub state : refusalOf s ≡ Refusal.None
+  pub state : refusalOf p s ≡ Refusal.None
   pub room : m + 156 ≤ n
 
-pub write-accepts : (s : State) (m n : ℕ) → acceptsOf (writeRefusal s m n) ≡ true → Writes s m n
+pub write-accepts : (p : Profile) (s : State) (m n : ℕ) → acceptsOf (writeRefusal p s m n) ≡ true → Writes p s m n
 unfolding writeRefusal
-write-accepts s m n h =
-    let a = or-accepts (startRefusal s m) _ h in
-    let b = start-accepts s m (a .0) in
+write-accepts p s m n h =
+    let a = or-accepts (startRefusal p s m) _ h in
+    let b = start-accepts p s m (a .0) in
     record { sized = b .0; state = b .1; room = leb-true (m + 156) n (unless-accepts _ Refusal.Output refl (a .1)) }

@@ -11,6 +11,7 @@ use borrow.Author.Tests.{le-leb, eq-eqb}
 use Rattle.word.specs.declared.width.Width.{Width}
 use Rattle.memory.specs.Access.{sizedOf}
 use Rattle.memory.specs.Load.{valueAt}
+use Rattle.insn.specs.declared.profile.Profile.{Profile}
 use Rattle.machine.specs.declared.state.State.{State}
 use Rattle.machine.specs.declared.refusal.Refusal.{Refusal}
 use Rattle.machine.specs.Refusal.{acceptsOf}
@@ -44,11 +45,11 @@ trailer-formed f m l h t =
 
 formed-trailer : (f : List ℕ) → Formed f → wordsAt 3 f (sizeOf f + 144) ≡ trailerOf (sizeOf f)
 unfolding wordsAt
-formed-trailer f p =
+formed-trailer f u =
     let a : sizeOf f + 144 ≡ length f - 12 = omega arith in
     let b : length f - 12 + 4 ≡ length f - 8 = omega arith in
     let c : length f - 8 + 4 ≡ length f - 4 = omega arith in
-    rw (a, b, c, p .distance, p .size, p .form)
+    rw (a, b, c, u .distance, u .size, u .form)
 
 trailer-below : (m : ℕ) → m < 2 ^ 32 → Below (2 ^ 32) (trailerOf m)
 trailer-below m h zero = lit≤ tt
@@ -57,7 +58,7 @@ trailer-below m h (suc (suc zero)) = lit≤ tt
 trailer-below m h (suc (suc (suc k))) = lit≤ tt
 
 -- a capture of a state that is accepted, and of memory that the board has
-module _ (s : State) (m : List ℕ) (g : length (s .gpr) ≡ 16) (w : Below (2 ^ 32) (wordsOf s)) (sized : sizedOf (length m) ≡ true) where
+module _ (p : Profile) (s : State) (m : List ℕ) (g : length (s .gpr) ≡ 16) (w : Below (2 ^ 32) (wordsOf s)) (sized : sizedOf (length m) ≡ true) where
   capture-size : sizeOf (captureOf s m) ≡ length m
   capture-size = omega (arith, capture-length s m g)
 
@@ -87,36 +88,36 @@ module _ (s : State) (m : List ℕ) (g : length (s .gpr) ≡ 16) (w : Below (2 ^
   unfolding captureOf
   capture-part = rw (capture-size, append-assoc) (take-at m _ (length m) refl)
 
-  capture-refusal : refusalOf s ≡ Refusal.None → readRefusal (captureOf s m) ≡ Refusal.None
+  capture-refusal : refusalOf p s ≡ Refusal.None → readRefusal p (captureOf s m) ≡ Refusal.None
   unfolding readRefusal startRefusal
   capture-refusal r = rw (capture-formed, capture-size, sized, capture-state, r)
 
-  pub capture-reads : refusalOf s ≡ Refusal.None → (readOf (captureOf s m) ≡ record { refusal = Refusal.None; state = s }) × (partOf (captureOf s m) ≡ m)
+  pub capture-reads : refusalOf p s ≡ Refusal.None → (readOf p (captureOf s m) ≡ record { refusal = Refusal.None; state = s }) × (partOf p (captureOf s m) ≡ m)
   unfolding readOf partOf
   capture-reads r = (rw (capture-refusal r, capture-state), rw (capture-refusal r, capture-part))
 
 -- the first M + 156 bytes of the output, if nothing is refused
-written-is : (s : State) (m out : List ℕ) → writeRefusal s (length m) (length out) ≡ Refusal.None → length (s .gpr) ≡ 16 → take (length m + 156) (outOf s m out) ≡ captureOf s m
+written-is : (p : Profile) (s : State) (m out : List ℕ) → writeRefusal p s (length m) (length out) ≡ Refusal.None → length (s .gpr) ≡ 16 → take (length m + 156) (outOf p s m out) ≡ captureOf s m
 unfolding outOf
-written-is s m out ok g = rw ok (take-at (captureOf s m) (drop (length m + 156) out) (length m + 156) (capture-length s m g))
+written-is p s m out ok g = rw ok (take-at (captureOf s m) (drop (length m + 156) out) (length m + 156) (capture-length s m g))
 
 -- what was written reads back as the same state and the same memory
-pub written-reads : (s : State) (m out : List ℕ) → writeRefusal s (length m) (length out) ≡ Refusal.None → length (s .gpr) ≡ 16 → Below (2 ^ 32) (wordsOf s)
-    → (readOf (take (length m + 156) (outOf s m out)) ≡ record { refusal = Refusal.None; state = s }) × (partOf (take (length m + 156) (outOf s m out)) ≡ m)
-written-reads s m out ok g w =
-    let a = write-accepts s (length m) (length out) (ap acceptsOf ok) in
-    rw (written-is s m out ok g) (capture-reads s m g w (a .sized) (a .state))
+pub written-reads : (p : Profile) (s : State) (m out : List ℕ) → writeRefusal p s (length m) (length out) ≡ Refusal.None → length (s .gpr) ≡ 16 → Below (2 ^ 32) (wordsOf s)
+    → (readOf p (take (length m + 156) (outOf p s m out)) ≡ record { refusal = Refusal.None; state = s }) × (partOf p (take (length m + 156) (outOf p s m out)) ≡ m)
+written-reads p s m out ok g w =
+    let a = write-accepts p s (length m) (length out) (ap acceptsOf ok) in
+    rw (written-is p s m out ok g) (capture-reads p s m g w (a .sized) (a .state))
 
 part-length : (f : List ℕ) → length (take (sizeOf f) f) ≡ sizeOf f
 part-length f = simp length-take (omega arith)
 
 -- a capture that is not refused
-module _ (f : List ℕ) (ok : readRefusal f ≡ Refusal.None) where
-  read-state : readOf f .state ≡ stateIn f
+module _ (p : Profile) (f : List ℕ) (ok : readRefusal p f ≡ Refusal.None) where
+  read-state : readOf p f .state ≡ stateIn f
   unfolding readOf
   read-state = rw ok
 
-  read-part : partOf f ≡ take (sizeOf f) f
+  read-part : partOf p f ≡ take (sizeOf f) f
   unfolding partOf
   read-part = rw ok
 
@@ -124,7 +125,7 @@ module _ (f : List ℕ) (ok : readRefusal f ≡ Refusal.None) where
   read-capture : Below 256 f → captureOf (stateIn f) (take (sizeOf f) f) ≡ f
   unfolding captureOf stateIn
   read-capture b =
-      let a = read-accepts f (ap acceptsOf ok) in
+      let a = read-accepts p f (ap acceptsOf ok) in
       rw (
         part-length f,
         words-of-state (wordsAt 36 f (sizeOf f)) (words-length 36 (sizeOf f) f),
@@ -136,17 +137,17 @@ module _ (f : List ℕ) (ok : readRefusal f ≡ Refusal.None) where
       )
       (take-all (sizeOf f + 144 + 12) f (omega arith))
 
-  read-accepted : (n : ℕ) → length f ≤ n → writeRefusal (stateIn f) (sizeOf f) n ≡ Refusal.None
+  read-accepted : (n : ℕ) → length f ≤ n → writeRefusal p (stateIn f) (sizeOf f) n ≡ Refusal.None
   unfolding writeRefusal startRefusal
   read-accepted n h =
-      let a = read-accepts f (ap acceptsOf ok) in
+      let a = read-accepts p f (ap acceptsOf ok) in
       rw (a .sized, a .state, le-leb (sizeOf f + 156) n (omega arith))
 
 -- what was read is written again as the same bytes
-pub read-writes : (f out : List ℕ) → readRefusal f ≡ Refusal.None → Below 256 f → length out ≡ length f
-    → (writtenOf (readOf f .state) (partOf f) out ≡ record { refusal = Refusal.None; bytes = length f }) × (outOf (readOf f .state) (partOf f) out ≡ f)
+pub read-writes : (p : Profile) (f out : List ℕ) → readRefusal p f ≡ Refusal.None → Below 256 f → length out ≡ length f
+    → (writtenOf p (readOf p f .state) (partOf p f) out ≡ record { refusal = Refusal.None; bytes = length f }) × (outOf p (readOf p f .state) (partOf p f) out ≡ f)
 unfolding writtenOf outOf
-read-writes f out ok b n =
-    let e : sizeOf f + 156 ≡ length f = omega (arith, read-accepts f (ap acceptsOf ok)) in
-    rw (read-state f ok, read-part f ok, part-length f, read-accepted f ok (length out) (omega arith), e)
-    (refl, rw (read-capture f ok b, drop-of-length-le out {i = length f} (omega arith)) (append-nil f))
+read-writes p f out ok b n =
+    let e : sizeOf f + 156 ≡ length f = omega (arith, read-accepts p f (ap acceptsOf ok)) in
+    rw (read-state p f ok, read-part p f ok, part-length f, read-accepted p f ok (length out) (omega arith), e)
+    (refl, rw (read-capture p f ok b, drop-of-length-le out {i = length f} (omega arith)) (append-nil f))

@@ -7,6 +7,7 @@ use lib.ListN.{length, take, replicate}
 use Rattle.word.specs.declared.width.Width.{Width}
 use Rattle.memory.specs.Access.{pick}
 use Rattle.memory.specs.Load.{valueAt}
+use Rattle.insn.specs.declared.profile.Profile.{Profile}
 use Rattle.machine.specs.declared.state.State.{State}
 use Rattle.machine.specs.declared.refusal.Refusal.{Refusal}
 use Rattle.machine.specs.Refusal.{acceptsOf, unless, orElse}
@@ -31,13 +32,13 @@ formedOf f =
     && eqb (valueAt Width.Word f (length f - 4)) 1
 
 -- reading checks 7, 1, 2, 3
-unfoldable pub readRefusal : List ℕ → Refusal
-readRefusal f = orElse (unless (formedOf f) Refusal.Capture) (startRefusal (stateIn f) (sizeOf f))
+unfoldable pub readRefusal : Profile → List ℕ → Refusal
+readRefusal p f = orElse (unless (formedOf f) Refusal.Capture) (startRefusal p (stateIn f) (sizeOf f))
 
 -- the refusal, and the state that the file holds; refused, a zeroed state
-unfoldable pub readOf : List ℕ → Read
-readOf f = record { refusal = readRefusal f; state = pick (acceptsOf (readRefusal f)) (stateIn f) (stateOf (replicate 36 0)) }
+unfoldable pub readOf : Profile → List ℕ → Read
+readOf p f = record { refusal = readRefusal p f; state = pick (acceptsOf (readRefusal p f)) (stateIn f) (stateOf (replicate 36 0)) }
 
 -- the first M bytes; refused, an empty part
-unfoldable pub partOf : List ℕ → List ℕ
-partOf f = pick (acceptsOf (readRefusal f)) (take (sizeOf f) f) []
+unfoldable pub partOf : Profile → List ℕ → List ℕ
+partOf p f = pick (acceptsOf (readRefusal p f)) (take (sizeOf f) f) []

@@ -4,6 +4,7 @@ use mathlib.Core.List.{List, [], _∷_, _++_}
 use lib.Dec.{leb}
 use lib.ListN.{length, drop}
 use Rattle.memory.specs.Access.{pick}
+use Rattle.insn.specs.declared.profile.Profile.{Profile}
 use Rattle.machine.specs.declared.state.State.{State}
 use Rattle.machine.specs.declared.refusal.Refusal.{Refusal}
 use Rattle.machine.specs.Refusal.{acceptsOf, unless, orElse}
@@ -20,14 +21,14 @@ unfoldable pub captureOf : State → List ℕ → List ℕ
 captureOf s m = m ++ wordBytes (wordsOf s) ++ wordBytes (trailerOf (length m))
 
 -- writing m bytes of memory into n of output checks 1, 2, 3, 8
-unfoldable pub writeRefusal : State → ℕ → ℕ → Refusal
-writeRefusal s m n = orElse (startRefusal s m) (unless (leb (m + 156) n) Refusal.Output)
+unfoldable pub writeRefusal : Profile → State → ℕ → ℕ → Refusal
+writeRefusal p s m n = orElse (startRefusal p s m) (unless (leb (m + 156) n) Refusal.Output)
 
 -- the refusal, and how many bytes were written; refused, none
-unfoldable pub writtenOf : State → List ℕ → List ℕ → Written
-writtenOf s m out =
-    record { refusal = writeRefusal s (length m) (length out); bytes = pick (acceptsOf (writeRefusal s (length m) (length out))) (length m + 156) 0 }
+unfoldable pub writtenOf : Profile → State → List ℕ → List ℕ → Written
+writtenOf p s m out =
+    record { refusal = writeRefusal p s (length m) (length out); bytes = pick (acceptsOf (writeRefusal p s (length m) (length out))) (length m + 156) 0 }
 
 -- the output with its first M + 156 bytes written and no others; refused, as it was
-unfoldable pub outOf : State → List ℕ → List ℕ → List ℕ
-outOf s m out = pick (acceptsOf (writeRefusal s (length m) (length out))) (captureOf s m ++ drop (length m + 156) out) out
+unfoldable pub outOf : Profile → State → List ℕ → List ℕ → List ℕ
+outOf p s m out = pick (acceptsOf (writeRefusal p s (length m) (length out))) (captureOf s m ++ drop (length m + 156) out) out

@@ -3,6 +3,7 @@ ghost use mathlib.Core.Path.{_≡_};
 ghost use Rattle.capture.specs.Read.{formedOf, readRefusal, readOf, partOf};
 use crate::words::state_at;
 use crate::words::state_of_words;
+use insn::profile::Profile;
 use machine::refusal::Refusal;
 use machine::refusal::accepts;
 use machine::state::State;
@@ -27,21 +28,21 @@ fn formed(file: &[u8]) -> bool
 }
 
 // Reading checks 7, 1, 2, 3.
-fn read_refusal(file: &[u8]) -> Refusal
-    ensures { λ r. ⌜ r ≡ readRefusal (now (file .entry)) ⌝ }
+fn read_refusal(profile: Profile, file: &[u8]) -> Refusal
+    ensures { λ r. ⌜ r ≡ readRefusal profile (now (file .entry)) ⌝ }
 {
     if !formed(file) {
         return Refusal::Capture;
     }
     let size = file.len() - 156;
-    state_at(file, size).start_refusal(size)
+    state_at(file, size).start_refusal(profile, size)
 }
 
 // The state, or the refusal and a zeroed state.
-pub fn state_of(file: &[u8]) -> Read
-    ensures { λ r. ⌜ r ≡ readOf (now (file .entry)) ⌝ }
+pub fn state_of(profile: Profile, file: &[u8]) -> Read
+    ensures { λ r. ⌜ r ≡ readOf profile (now (file .entry)) ⌝ }
 {
-    let refusal = read_refusal(file);
+    let refusal = read_refusal(profile, file);
     if accepts(refusal) {
         Read {
             refusal,
@@ -56,10 +57,10 @@ pub fn state_of(file: &[u8]) -> Read
 }
 
 // The memory part itself, or an empty part.
-pub fn memory_part(file: &[u8]) -> &[u8]
-    ensures { λ r. ⌜ now r ≡ partOf (now (file .entry)) ⌝ }
+pub fn memory_part(profile: Profile, file: &[u8]) -> &[u8]
+    ensures { λ r. ⌜ now r ≡ partOf profile (now (file .entry)) ⌝ }
 {
-    if accepts(read_refusal(file)) {
+    if accepts(read_refusal(profile, file)) {
         let end = file.len() - 156;
         &file[..end]
     } else {

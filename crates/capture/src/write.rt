@@ -7,6 +7,7 @@ ghost use lib.Seq.{sets};
 ghost use Rattle.capture.specs.Write.{captureOf, writeRefusal, writtenOf, outOf};
 use crate::words::put_state;
 use crate::words::put_words;
+use insn::profile::Profile;
 use machine::refusal::Refusal;
 use machine::refusal::accepts;
 use machine::state::State;
@@ -17,10 +18,10 @@ pub struct Written {
 }
 
 // Writing checks 1, 2, 3, 8.
-fn write_refusal(state: State, size: usize, room: usize) -> Refusal
-    ensures { λ r. ⌜ r ≡ writeRefusal state size room ⌝ }
+fn write_refusal(profile: Profile, state: State, size: usize, room: usize) -> Refusal
+    ensures { λ r. ⌜ r ≡ writeRefusal profile state size room ⌝ }
 {
-    let start = state.start_refusal(size);
+    let start = state.start_refusal(profile, size);
     if !accepts(start) {
         return start;
     }
@@ -57,11 +58,11 @@ fn put_capture(out: &mut [u8], state: State, memory: &[u8])
 }
 
 // Fills the first M + 156 bytes and no others; a refusal stores nothing.
-pub fn write(state: State, memory: &[u8], out: &mut [u8]) -> Written
-    ensures { λ r. ⌜ (r ≡ writtenOf state (now (memory .entry)) (now (out .entry))) × (now (out .exit) ≡ outOf state (now (memory .entry)) (now (out .entry))) ⌝ }
+pub fn write(profile: Profile, state: State, memory: &[u8], out: &mut [u8]) -> Written
+    ensures { λ r. ⌜ (r ≡ writtenOf profile state (now (memory .entry)) (now (out .entry))) × (now (out .exit) ≡ outOf profile state (now (memory .entry)) (now (out .entry))) ⌝ }
 {
     let size = memory.len();
-    let refusal = write_refusal(state, size, out.len());
+    let refusal = write_refusal(profile, state, size, out.len());
     if accepts(refusal) {
         put_capture(out, state, memory);
         Written {

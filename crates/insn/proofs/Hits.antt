@@ -3,8 +3,8 @@ use mathlib.Core.Path.{_≡_, refl}
 use mathlib.Core.Bool.{Bool, true, false}
 use Prim.Native.Nat.{ℕ, _%_, _<_}
 use lib.Dec.{lit<}
-use Rattle.insn.specs.Codes.{arithImmCode, arithCode, arithOneCode, multiplyCode, logicImmCode, logicCode, logicOneCode, compareImmCode, compareCode, rotateCode, shiftCode, loadCode, storeCode, loadIndexedCode, storeIndexedCode, loadDoubleCode, storeDoubleCode, branchCode, sprCode, moveCode, cacheCode}
-use Rattle.insn.specs.Read.{arithImmAt, arithAt, arithOneAt, multiplyAt, logicImmAt, logicAt, logicOneAt, compareImmAt, compareAt, rotateImmAt, rotateAt, shiftAt, srawiAt, loadAt, loadIndexedAt, storeAt, storeIndexedAt, loadDoubleAt, storeDoubleAt, branchAt, branchIfAt, branchToAt, trapAt, moveSprAt, moveRegAt, wrteeiAt, rfiAt, syncAt, cacheAt, primary, primaryRows, loadStore, loadStoreRows, arithmetic, arithmeticRows, logical, logicalRows, storage, storageRows, system, systemRows, opcode19, rows19, opcode4, rows4}
+use Rattle.insn.specs.Codes.{arithImmCode, arithCode, arithOneCode, multiplyCode, logicImmCode, logicCode, logicOneCode, compareImmCode, compareCode, rotateCode, shiftCode, loadCode, storeCode, loadIndexedCode, storeIndexedCode, loadDoubleCode, storeDoubleCode, rotateDoubleCode, branchCode, sprCode, moveCode, cacheCode}
+use Rattle.insn.specs.Read.{arithImmAt, arithAt, arithOneAt, multiplyAt, multiplyImmAt, multiplyLowAt, logicImmAt, logicAt, logicOneAt, compareImmAt, compareAt, rotateImmAt, rotateAt, shiftAt, srawiAt, rotateDoubleAt, loadAt, loadIndexedAt, storeAt, storeIndexedAt, loadDoubleAt, storeDoubleAt, branchAt, branchIfAt, branchToAt, trapAt, moveSprAt, moveRegAt, wrteeiAt, rfiAt, syncAt, cacheAt, primary, primaryRows, loadStore, loadStoreRows, added, addedRows, opcode30, rows30, arithmetic, arithmeticRows, logical, logicalRows, storage, storageRows, system, systemRows, opcode19, rows19, opcode4, rows4}
 use Rattle.insn.specs.declared.fields.Fields.{Fields}
 use Rattle.insn.specs.declared.instr.Instr.{Instr}
 use Rattle.insn.specs.declared.instr.Decoded.{Decoded}
@@ -15,6 +15,7 @@ use Rattle.insn.specs.declared.instr.LogicImmOp.{LogicImmOp}
 use Rattle.insn.specs.declared.instr.LogicOp.{LogicOp}
 use Rattle.insn.specs.declared.instr.LogicOneOp.{LogicOneOp}
 use Rattle.insn.specs.declared.instr.RotateOp.{RotateOp}
+use Rattle.insn.specs.declared.instr.RotateDoubleOp.{RotateDoubleOp}
 use Rattle.insn.specs.declared.instr.ShiftOp.{ShiftOp}
 use Rattle.insn.specs.declared.instr.BranchOp.{BranchOp}
 use Rattle.insn.specs.declared.instr.SprOp.{SprOp}
@@ -95,6 +96,16 @@ unfolding primary primaryRows loadStore loadStoreRows
 hit-store-double false = (λ f. refl, lit< tt)
 hit-store-double true = (λ f. refl, lit< tt)
 
+pub hit-multiply-imm : Primary 7 multiplyImmAt
+unfolding primary primaryRows loadStore loadStoreRows added addedRows
+hit-multiply-imm = (λ f. refl, lit< tt)
+
+pub hit-rotate-double : (op : RotateDoubleOp) → Reads (opcode30 (rotateDoubleCode op)) (rotateDoubleAt op) × (rotateDoubleCode op < 8)
+unfolding opcode30 rows30
+hit-rotate-double RotateDoubleOp.Rldicl = (λ f. refl, lit< tt)
+hit-rotate-double RotateDoubleOp.Rldicr = (λ f. refl, lit< tt)
+hit-rotate-double RotateDoubleOp.Rldimi = (λ f. refl, lit< tt)
+
 pub hit-rotate-imm : (op : RotateOp) → Primary (rotateCode op) (rotateImmAt op)
 unfolding primary primaryRows
 hit-rotate-imm RotateOp.Rlwimi = (λ f. refl, lit< tt)
@@ -128,6 +139,10 @@ hit-arith-one ArithOneOp.Addze = (λ x f. refl, lit< tt)
 hit-arith-one ArithOneOp.Subfme = (λ x f. refl, lit< tt)
 hit-arith-one ArithOneOp.Subfze = (λ x f. refl, lit< tt)
 hit-arith-one ArithOneOp.Neg = (λ x f. refl, lit< tt)
+
+pub hit-multiply-low : XO31 235 multiplyLowAt
+unfolding arithmetic arithmeticRows
+hit-multiply-low = (λ x f. refl, lit< tt)
 
 pub hit-logic : (op : LogicOp) → X31 (logicCode op) (logicAt op)
 unfolding arithmetic arithmeticRows logical logicalRows

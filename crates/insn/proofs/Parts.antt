@@ -8,7 +8,7 @@ use lib.Dec.{eqb, lit<}
 use lib.Pow.{pow-pos, mod-pow-add}
 use Rattle.word.proofs.ByBits.{digit-of}
 use Rattle.word.specs.Bits.{digit, bitAt, bitsAt, fieldAt}
-use Rattle.insn.specs.Fields.{sprOf, fieldsOf, wordD, wordX, wordXO, wordXFX, wordE, wordM, wordB, wordI}
+use Rattle.insn.specs.Fields.{sprOf, shOf, mbOf, fieldsOf, wordD, wordX, wordXO, wordXFX, wordE, wordM, wordMD, wordB, wordI}
 use Rattle.insn.specs.declared.fields.Fields.{Fields}
 
 digit-lt : (b : Bool) → digit b < 2
@@ -26,6 +26,13 @@ flag b w i e = ap (λ (n : ℕ). eqb n 1) e ∙ eqb-digit b
 -- SPRN is made of the parts at ra and rb
 spr-of : (w : ℕ) {ra rb : ℕ} → bitsAt w 11 15 ≡ ra → bitsAt w 16 20 ≡ rb → sprOf w ≡ fieldAt 22 26 rb + fieldAt 27 31 ra
 spr-of w a b = rw (a, b)
+
+-- SH and MB of a doubleword are made of the parts at 30 and 16, at 26 and 21
+sh-of : (w : ℕ) {first low : ℕ} → bitsAt w 30 30 ≡ first → bitsAt w 16 20 ≡ low → shOf w ≡ fieldAt 26 26 first + fieldAt 27 31 low
+sh-of w a b = rw (a, b)
+
+mb-of : (w : ℕ) {first low : ℕ} → bitsAt w 26 26 ≡ first → bitsAt w 21 25 ≡ low → mbOf w ≡ fieldAt 26 26 first + fieldAt 27 31 low
+mb-of w a b = rw (a, b)
 
 pub record DParts (op rt ra imm : ℕ) (f : Fields) : Type 0 where
   pub op-is : f .op ≡ op
@@ -130,6 +137,31 @@ m-parts {op} {rs} {ra} {rb} {mb} {me} rc hop h =
       mb-is = omega arith;
       me-is = omega arith;
       rc-is = flag rc (wordM op rs ra rb mb me rc) 31 (omega arith);
+    }
+
+pub record MDParts (ds da sh mb mb5 md sh5 : ℕ) (rc : Bool) (f : Fields) : Type 0 where
+  pub op-is : f .op ≡ 30
+  pub rt-is : f .rt ≡ ds
+  pub ra-is : f .ra ≡ da
+  pub sh-is : f .sh ≡ fieldAt 26 26 sh5 + fieldAt 27 31 sh
+  pub mb-is : f .mb6 ≡ fieldAt 26 26 mb5 + fieldAt 27 31 mb
+  pub md-is : f .md ≡ md
+  pub rc-is : f .rc ≡ rc
+
+pub md-parts : {ds da sh mb mb5 md sh5 : ℕ} (rc : Bool) → md < 8 → (ds < 32) × (da < 32) × (sh < 32) × (mb < 32) × (mb5 < 2) × (sh5 < 2)
+    → MDParts ds da sh mb mb5 md sh5 rc (fieldsOf (wordMD ds da sh mb mb5 md sh5 rc))
+unfolding fieldsOf
+md-parts {ds} {da} {sh} {mb} {mb5} {md} {sh5} rc hmd h =
+    let hrc = digit-lt rc in
+    let w = wordMD ds da sh mb mb5 md sh5 rc in
+    record {
+      op-is = omega arith;
+      rt-is = omega arith;
+      ra-is = omega arith;
+      sh-is = sh-of w (omega arith) (omega arith);
+      mb-is = mb-of w (omega arith) (omega arith);
+      md-is = omega arith;
+      rc-is = flag rc w 31 (omega arith);
     }
 
 pub record BParts (bo bi bd : ℕ) (aa lk : Bool) (f : Fields) : Type 0 where

@@ -1,4 +1,4 @@
--- What is written is read back, what is read is written back, and an illegal word is no valid instruction's. Assumes nothing.
+-- What is written is read back, what is read is written back, and an illegal word is no valid instruction's: on a 42X, and on either core. Assumes nothing.
 use mathlib.Core.Path.{_≡_, _∙_, refl, sym, ap}
 use mathlib.Core.Bool.{Bool, true, false, cond, not, _&&_, _||_}
 use mathlib.Core.List.{List, [], _∷_}
@@ -11,11 +11,12 @@ use borrow.Author.Tests.{eqb-true, eq-eqb, lt-leb, le-leb, ne-eqb, ltb-true}
 use Rattle.word.proofs.Truth.{and-true}
 use Rattle.word.proofs.Below.{agree-at}
 use Rattle.word.specs.Bits.{bitsAt, fieldAt}
-use Rattle.insn.specs.Codes.{moveFxm}
-use Rattle.insn.specs.Fields.{fieldsOf, wordD, wordX, wordXO, wordXFX, wordE, wordM, wordB, wordI}
-use Rattle.insn.specs.Valid.{fits, regOf, twoRegs, threeRegs, pairedWith, isVdr, isSpr, readOnly, sprOk, isTo, hintOk, loadForm, storeForm, loadDoubleForm, branchForm, validOf}
+use Rattle.insn.specs.Codes.{moveFxm, rotateDoubleCode}
+use Rattle.insn.specs.Fields.{fieldsOf, wordD, wordX, wordXO, wordXFX, wordE, wordM, wordMD, wordB, wordI}
+use Rattle.insn.specs.Valid.{fits, regOf, twoRegs, threeRegs, pairedWith, isVdr, isSpr, readOnly, sprOk, isTo, trapForm, markForm, hintOk, loadForm, storeForm, loadDoubleForm, branchForm, validOf}
+use Rattle.insn.specs.Profile.{has, validOn}
 use Rattle.insn.specs.Write.{wordOf}
-use Rattle.insn.specs.Read.{primary, primaryRows, arithmetic, opcode19, opcode4, guessOf, settled, decodeOf}
+use Rattle.insn.specs.Read.{primary, primaryRows, loadStore, loadStoreRows, added, addedRows, arithmetic, opcode19, opcode4, opcode30, guessOf, settled, decodeOf, keptOn, decodeOn}
 use Rattle.insn.specs.declared.fields.Fields.{Fields}
 use Rattle.insn.specs.declared.instr.Instr.{Instr}
 use Rattle.insn.specs.declared.instr.Decoded.{Decoded}
@@ -27,9 +28,11 @@ use Rattle.insn.specs.declared.instr.LoadStore.{LoadStore}
 use Rattle.insn.specs.declared.instr.Branch.{Branch}
 use Rattle.insn.specs.declared.instr.System.{System}
 use Rattle.insn.specs.declared.instr.SprOp.{SprOp}
+use Rattle.insn.specs.declared.instr.RotateDoubleOp.{RotateDoubleOp}
+use Rattle.insn.specs.declared.profile.Profile.{Profile}
 use Rattle.insn.specs.declared.instr.CacheOp.{CacheOp}
-use Rattle.insn.proofs.Parts.{DParts, d-parts, XParts, x-parts, XOParts, xo-parts, XFXParts, xfx-parts, EParts, e-parts, MParts, m-parts, BParts, b-parts, IParts, i-parts}
-use Rattle.insn.proofs.Hits.{Primary, XO31, Extended, opcode31, X31, hit-arith-imm, hit-arith, hit-arith-one, hit-multiply, hit-logic-imm, hit-logic, hit-logic-one, hit-compare-imm, hit-compare, hit-rotate-imm, hit-rotate, hit-shift, hit-srawi, hit-load, hit-load-indexed, hit-store, hit-store-indexed, hit-load-double, hit-store-double, hit-branch, hit-branch-if, hit-branch-to, hit-trap, hit-spr, hit-move, hit-wrteei, hit-rfi, hit-sync, hit-cache}
+use Rattle.insn.proofs.Parts.{DParts, d-parts, XParts, x-parts, XOParts, xo-parts, XFXParts, xfx-parts, EParts, e-parts, MParts, m-parts, MDParts, md-parts, BParts, b-parts, IParts, i-parts}
+use Rattle.insn.proofs.Hits.{Reads, Primary, XO31, Extended, opcode31, X31, hit-arith-imm, hit-arith, hit-arith-one, hit-multiply, hit-multiply-imm, hit-multiply-low, hit-logic-imm, hit-logic, hit-logic-one, hit-compare-imm, hit-compare, hit-rotate-imm, hit-rotate, hit-shift, hit-srawi, hit-rotate-double, hit-load, hit-load-indexed, hit-store, hit-store-indexed, hit-load-double, hit-store-double, hit-branch, hit-branch-if, hit-branch-to, hit-trap, hit-spr, hit-move, hit-wrteei, hit-rfi, hit-sync, hit-cache}
 
 -- a word that reads as an instruction is what that instruction is written as, and the instruction is valid
 settled-is : (w : ℕ) (d : Decoded) (i : Instr) → settled w d ≡ Decoded.Insn i → (validOf i ≡ true) × (wordOf i ≡ w)
@@ -128,6 +131,10 @@ of-4 : Leads 4 opcode4
 unfolding primary primaryRows
 of-4 = (lit< tt, λ f x e g h. ap (λ (n : ℕ). primary n f) e ∙ ap (λ (n : ℕ). opcode4 n f) g)
 
+to-30 : (f : Fields) → f .op ≡ 30 → guessOf f ≡ opcode30 (f .md) f
+unfolding primary primaryRows loadStore loadStoreRows added addedRows
+to-30 f e = ap (λ (n : ℕ). primary n f) e
+
 -- what a table has for a word is an instruction made of the word's parts
 abbrev Makes : (Fields → Type 0) → (Fields → Instr) → Instr → Type 0
 Makes Parts at i = (f : Fields) → Parts f → at f ≡ i
@@ -168,6 +175,13 @@ by-m {op} {rs} {ra} {rb} {mb} {me} rc hit h same =
     let p : MParts op rs ra rb mb me rc f = m-parts rc (hit .1) h in
     ap (λ (n : ℕ). primary n f) (p .op-is) ∙ hit .0 f ∙ ap Decoded.Insn (same f p)
 
+by-md : {ds da sh mb mb5 sh5 : ℕ} (op : RotateDoubleOp) {at : Fields → Instr} {i : Instr} (rc : Bool) → Reads (opcode30 (rotateDoubleCode op)) at × (rotateDoubleCode op < 8) → (ds < 32) × (da < 32) × (sh < 32) × (mb < 32) × (mb5 < 2) × (sh5 < 2)
+    → Makes (MDParts ds da sh mb mb5 (rotateDoubleCode op) sh5 rc) at i → guessOf (fieldsOf (wordMD ds da sh mb mb5 (rotateDoubleCode op) sh5 rc)) ≡ Decoded.Insn i
+by-md {ds} {da} {sh} {mb} {mb5} {sh5} op rc hit h same =
+    let f = fieldsOf (wordMD ds da sh mb mb5 (rotateDoubleCode op) sh5 rc) in
+    let p : MDParts ds da sh mb mb5 (rotateDoubleCode op) sh5 rc f = md-parts rc (hit .1) h in
+    to-30 f (p .op-is) ∙ ap (λ (n : ℕ). opcode30 n f) (p .md-is) ∙ hit .0 f ∙ ap Decoded.Insn (same f p)
+
 by-b : {bo bi bd : ℕ} {at : Fields → Instr} {i : Instr} (aa lk : Bool) → Primary 16 at → (bo < 32) × (bi < 32) × (bd < 16384) → Makes (BParts bo bi bd aa lk) at i → guessOf (fieldsOf (wordB bo bi bd aa lk)) ≡ Decoded.Insn i
 by-b {bo} {bi} {bd} aa lk hit h same =
     let f = fieldsOf (wordB bo bi bd aa lk) in
@@ -180,6 +194,17 @@ by-i {li} aa lk hit h same =
     let p : IParts li aa lk f = i-parts aa lk h in
     ap (λ (n : ℕ). primary n f) (p .op-is) ∙ hit .0 f ∙ ap Decoded.Insn (same f p)
 
+-- the fields of a tw
+trap-lt : (to ra rb : ℕ) (tg : Bool) → (markForm to ra rb tg || trapForm to ra rb) ≡ true → (to < 32) × (ra < 32) × (rb < 32)
+trap-lt to ra rb tg v = go (markForm to ra rb tg) refl v
+  where
+    go : (b : Bool) → markForm to ra rb tg ≡ b → (b || trapForm to ra rb) ≡ true → (to < 32) × (ra < 32) × (rb < 32)
+    go true t h = let q = ands tg (fits 5 to ∷ fits 5 ra ∷ fits 5 rb ∷ []) t in omega facts
+    go false t h =
+        let q = and-true (isTo to) (twoRegs ra rb) h in
+        let r = two ra rb (q .1) in
+        omega facts
+
 -- what a valid instruction is written as suggests that instruction
 guess-written : (i : Instr) → validOf i ≡ true → guessOf (fieldsOf (wordOf i)) ≡ Decoded.Insn i
 guess-written (Instr.Arithmetic (Arithmetic.Immediate op rt ra si)) v =
@@ -191,6 +216,11 @@ guess-written (Instr.Arithmetic (Arithmetic.One op rt ra oe rc)) v =
     let r = two rt ra v in
     by-xo {rb = 0} oe rc (hit-arith-one op) (omega arith) (λ f p. rw (p .rt-is, p .ra-is, p .oe-is, p .rc-is))
 guess-written (Instr.Arithmetic (Arithmetic.Multiply sign rt ra rb rc)) v = by-x of-4 rc (hit-multiply sign) (three rt ra rb v) (λ f p. rw (p .rt-is, p .ra-is, p .rb-is, p .rc-is))
+guess-written (Instr.Arithmetic (Arithmetic.MultiplyImm rt ra si)) v =
+    let h = and-true (fits 16 si) (twoRegs rt ra) v in
+    let r = two rt ra (h .1) in
+    by-d hit-multiply-imm (omega facts) (λ f p. rw (p .rt-is, p .ra-is, p .imm-is))
+guess-written (Instr.Arithmetic (Arithmetic.MultiplyLow rt ra rb oe rc)) v = by-xo oe rc hit-multiply-low (three rt ra rb v) (λ f p. rw (p .rt-is, p .ra-is, p .rb-is, p .oe-is, p .rc-is))
 guess-written (Instr.Logical (Logical.Immediate op rs ra ui)) v =
     let h = and-true (fits 16 ui) (twoRegs rs ra) v in
     let r = two rs ra (h .1) in
@@ -215,6 +245,12 @@ guess-written (Instr.Rotate (Rotate.Shift op rs ra rb rc)) v = by-x of-31 rc (hi
 guess-written (Instr.Rotate (Rotate.Srawi rs ra sh rc)) v =
     let h = ands (regOf rs) (regOf ra ∷ fits 5 sh ∷ []) v in
     by-x of-31 rc hit-srawi (omega facts) (λ f p. rw (p .rt-is, p .ra-is, p .rb-is, p .rc-is))
+guess-written (Instr.Rotate (Rotate.Double op ds da sh mb rc)) v =
+    let h = ands (regOf ds) (regOf (pairedWith ds) ∷ isVdr da ∷ fits 6 sh ∷ fits 6 mb ∷ []) v in
+    let r = two da (pairedWith da) (h .0 .0 .1) in
+    let e : fieldAt 26 26 (bitsAt sh 26 26) + fieldAt 27 31 (bitsAt sh 27 31) ≡ sh = omega facts in
+    let g : fieldAt 26 26 (bitsAt mb 26 26) + fieldAt 27 31 (bitsAt mb 27 31) ≡ mb = omega facts in
+    by-md op rc (hit-rotate-double op) (omega facts) (λ f p. rw (p .rt-is, p .ra-is, p .sh-is, p .mb-is, p .rc-is, e, g))
 guess-written (Instr.LoadStore (LoadStore.Load width update rt ra d)) v =
     let h = and-true (fits 16 d) (twoRegs rt ra && loadForm update rt ra) v in
     let r = ands (regOf rt) (regOf ra ∷ loadForm update rt ra ∷ []) (h .1) in
@@ -241,8 +277,7 @@ guess-written (Instr.Branch (Branch.Register op bo bi bh lk)) v =
     let h = ands (fits 5 bo) (fits 2 bi ∷ fits 2 bh ∷ branchForm op bo ∷ []) v in
     by-x of-19 lk (hit-branch-to op) (omega facts) (λ f p. rw (p .rt-is, p .ra-is, p .rb-is, p .rc-is))
 guess-written (Instr.Trap to ra rb tg) v =
-    let h = and-true (isTo to) (twoRegs ra rb) v in
-    let r = two ra rb (h .1) in
+    let h = trap-lt to ra rb tg v in
     by-x of-31 tg hit-trap (omega facts) (λ f p. rw (p .rt-is, p .ra-is, p .rb-is, p .rc-is))
 guess-written (Instr.System (System.Spr op rt spr)) v =
     let h = and-true (regOf rt) (sprOk op spr) v in
@@ -261,22 +296,49 @@ pub written-read : (i : Instr) → validOf i ≡ true → decodeOf (wordOf i) �
 unfolding decodeOf
 written-read i v = rw (guess-written i v, v, eq-eqb (wordOf i) (wordOf i) refl)
 
+-- on either core: what it keeps of what a 42X reads
+kept-is : (p : Profile) (d : Decoded) (i : Instr) → keptOn p d ≡ Decoded.Insn i → (has p i ≡ true) × (d ≡ Decoded.Insn i)
+kept-is p Decoded.Illegal i e = let z : _≡_ {A = ℕ} 0 1 = cc in absurd (omega arith)
+kept-is p (Decoded.Insn j) i e = go (has p j) refl e
+  where
+    go : (b : Bool) → has p j ≡ b → cond b (Decoded.Insn j) Decoded.Illegal ≡ Decoded.Insn i → (has p i ≡ true) × (Decoded.Insn j ≡ Decoded.Insn i)
+    go true t h = let s : j ≡ i = cc in (ap (has p) (sym s) ∙ t, h)
+    go false t h = let z : _≡_ {A = ℕ} 0 1 = cc in absurd (omega arith)
+
+pub read-written-on : (p : Profile) (w : ℕ) (i : Instr) → decodeOn p w ≡ Decoded.Insn i → (validOn p i ≡ true) × (wordOf i ≡ w)
+unfolding decodeOn
+read-written-on p w i e =
+    let k = kept-is p (decodeOf w) i e in
+    let h = read-written w i (k .1) in
+    (rw (k .0, h .0), h .1)
+
+pub written-read-on : (p : Profile) (i : Instr) → validOn p i ≡ true → decodeOn p (wordOf i) ≡ Decoded.Insn i
+unfolding decodeOn
+written-read-on p i v =
+    let h = and-true (has p i) (validOf i) v in
+    rw (written-read i (h .1), h .0)
+
 -- two valid instructions that are written as one word are the same
-pub written-once : (i j : Instr) → validOf i ≡ true → validOf j ≡ true → wordOf i ≡ wordOf j → i ≡ j
-written-once i j v u e =
-    let d : Decoded.Insn i ≡ Decoded.Insn j = sym (written-read i v) ∙ ap decodeOf e ∙ written-read j u in
+pub written-once : (p : Profile) (i j : Instr) → validOn p i ≡ true → validOn p j ≡ true → wordOf i ≡ wordOf j → i ≡ j
+written-once p i j v u e =
+    let d : Decoded.Insn i ≡ Decoded.Insn j = sym (written-read-on p i v) ∙ ap (decodeOn p) e ∙ written-read-on p j u in
     cc
 
 -- a word is illegal exactly where no valid instruction is written as it
-pub illegal-is : (w : ℕ) → decodeOf w ≡ Decoded.Illegal → (i : Instr) → validOf i ≡ true → wordOf i ≡ w → ⊥
-illegal-is w e i v q =
-    let d : Decoded.Insn i ≡ Decoded.Illegal = sym (written-read i v) ∙ ap decodeOf q ∙ e in
+pub illegal-is : (p : Profile) (w : ℕ) → decodeOn p w ≡ Decoded.Illegal → (i : Instr) → validOn p i ≡ true → wordOf i ≡ w → ⊥
+illegal-is p w e i v q =
+    let d : Decoded.Insn i ≡ Decoded.Illegal = sym (written-read-on p i v) ∙ ap (decodeOn p) q ∙ e in
     let z : _≡_ {A = ℕ} 0 1 = cc in
     omega arith
 
-pub illegal-if : (w : ℕ) → ((i : Instr) → validOf i ≡ true → wordOf i ≡ w → ⊥) → decodeOf w ≡ Decoded.Illegal
-illegal-if w none = go (decodeOf w) refl
+pub illegal-if : (p : Profile) (w : ℕ) → ((i : Instr) → validOn p i ≡ true → wordOf i ≡ w → ⊥) → decodeOn p w ≡ Decoded.Illegal
+illegal-if p w none = go (decodeOn p w) refl
   where
-    go : (d : Decoded) → decodeOf w ≡ d → d ≡ Decoded.Illegal
-    go (Decoded.Insn i) e = let h = read-written w i e in absurd (none i (h .0) (h .1))
+    go : (d : Decoded) → decodeOn p w ≡ d → d ≡ Decoded.Illegal
+    go (Decoded.Insn i) e = let h = read-written-on p w i e in absurd (none i (h .0) (h .1))
     go Decoded.Illegal e = refl
+
+-- what a 42 reads, a 42X reads as the same
+pub read-on-42x : (w : ℕ) (i : Instr) → decodeOn Profile.Ppe42 w ≡ Decoded.Insn i → decodeOn Profile.Ppe42x w ≡ Decoded.Insn i
+unfolding decodeOn
+read-on-42x w i e = rw (kept-is Profile.Ppe42 (decodeOf w) i e .1)

@@ -9,6 +9,7 @@ use Rattle.insn.specs.declared.instr.LogicImmOp.{LogicImmOp}
 use Rattle.insn.specs.declared.instr.LogicOp.{LogicOp}
 use Rattle.insn.specs.declared.instr.LogicOneOp.{LogicOneOp}
 use Rattle.insn.specs.declared.instr.RotateOp.{RotateOp}
+use Rattle.insn.specs.declared.instr.RotateDoubleOp.{RotateDoubleOp}
 use Rattle.insn.specs.declared.instr.ShiftOp.{ShiftOp}
 use Rattle.insn.specs.declared.instr.BranchOp.{BranchOp}
 use Rattle.insn.specs.declared.instr.SprOp.{SprOp}
@@ -17,7 +18,7 @@ use Rattle.insn.specs.declared.instr.CacheOp.{CacheOp}
 use Rattle.insn.specs.declared.instr.Sign.{Sign}
 use Rattle.word.specs.declared.width.Width.{Width}
 
--- primary opcodes of D forms
+-- primary opcodes of D forms; mulli is 7
 abbrev pub arithImmCode : ArithImmOp → ℕ
 arithImmCode ArithImmOp.Addi = 14  -- 9.4.4
 arithImmCode ArithImmOp.Addis = 15  -- 9.4.7
@@ -62,7 +63,13 @@ abbrev pub rotateCode : RotateOp → ℕ
 rotateCode RotateOp.Rlwimi = 20  -- 9.4.73
 rotateCode RotateOp.Rlwinm = 21  -- 9.4.74
 
--- extended opcodes under primary opcode 31, XO forms
+-- extended opcodes of MD forms, under primary opcode 30
+abbrev pub rotateDoubleCode : RotateDoubleOp → ℕ
+rotateDoubleCode RotateDoubleOp.Rldicl = 0  -- 9.4.70
+rotateDoubleCode RotateDoubleOp.Rldicr = 1  -- 9.4.71
+rotateDoubleCode RotateDoubleOp.Rldimi = 3  -- 9.4.72
+
+-- extended opcodes under primary opcode 31, XO forms; mullw is 235
 abbrev pub arithCode : ArithOp → ℕ
 arithCode ArithOp.Add = 266  -- 9.4.1
 arithCode ArithOp.Addc = 10  -- 9.4.2

@@ -8,8 +8,16 @@ use Rattle.insn.specs.declared.fields.Fields.{Fields}
 abbrev pub sprOf : ℕ → ℕ
 sprOf w = fieldAt 22 26 (bitsAt w 16 20) + fieldAt 27 31 (bitsAt w 11 15)
 
+-- n ← sh_5 ‖ sh_0:4, where sh_0:4 is 16:20 and sh_5 is 30 (9.4.70 to 9.4.72)
+abbrev pub shOf : ℕ → ℕ
+shOf w = fieldAt 26 26 (bitsAt w 30 30) + fieldAt 27 31 (bitsAt w 16 20)
+
+-- b ← mb_5 ‖ mb_0:4, where mb is 21:26; me of rldicr likewise
+abbrev pub mbOf : ℕ → ℕ
+mbOf w = fieldAt 26 26 (bitsAt w 26 26) + fieldAt 27 31 (bitsAt w 21 25)
+
 -- rt is RS, TO, BO or a hint too; ra is BI too; rb is SH or BH too; imm is SI, UI or D; rc is LK or TG too;
--- x is the extended opcode of X forms, xo that of XO forms
+-- x is the extended opcode of X forms, xo that of XO forms, md that of MD forms, whose SH is sh and whose MB or ME is mb6
 unfoldable pub fieldsOf : ℕ → Fields
 fieldsOf w =
     record {
@@ -25,7 +33,10 @@ fieldsOf w =
       imm = bitsAt w 16 31;
       bd = bitsAt w 16 29;
       li = bitsAt w 6 29;
+      md = bitsAt w 27 29;
       spr = sprOf w;
+      sh = shOf w;
+      mb6 = mbOf w;
       e = bitAt w 16;
       oe = bitAt w 21;
       aa = bitAt w 30;
@@ -54,6 +65,11 @@ wordE e x = fieldAt 0 5 31 + fieldAt 16 16 (digit e) + fieldAt 21 30 x
 abbrev pub wordM : ℕ → ℕ → ℕ → ℕ → ℕ → ℕ → Bool → ℕ
 wordM op rs ra rb mb me rc =
     fieldAt 0 5 op + fieldAt 6 10 rs + fieldAt 11 15 ra + fieldAt 16 20 rb + fieldAt 21 25 mb + fieldAt 26 30 me + fieldAt 31 31 (digit rc)
+
+-- sh_0:4 and mb_0:4 are five bits, sh_5 and mb_5 one
+abbrev pub wordMD : ℕ → ℕ → ℕ → ℕ → ℕ → ℕ → ℕ → Bool → ℕ
+wordMD ds da sh mb mb5 md sh5 rc =
+    fieldAt 0 5 30 + fieldAt 6 10 ds + fieldAt 11 15 da + fieldAt 16 20 sh + fieldAt 21 25 mb + fieldAt 26 26 mb5 + fieldAt 27 29 md + fieldAt 30 30 sh5 + fieldAt 31 31 (digit rc)
 
 abbrev pub wordB : ℕ → ℕ → ℕ → Bool → Bool → ℕ
 wordB bo bi bd aa lk =

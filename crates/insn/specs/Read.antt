@@ -1,13 +1,15 @@
--- What a word reads as: the instruction that its opcodes and parts suggest, if that is valid and is written as this very word.
+-- What a word reads as on a 42X, and on either core: the instruction that its opcodes and parts suggest, if that is valid and is written as this very word.
 -- So only `validOf` and `wordOf` have to be believed: a slip in a table below would refute `written-read`.
 use Prim.Native.Nat.{ℕ}
 use mathlib.Core.Bool.{Bool, true, false, cond, _&&_}
 use mathlib.Core.List.{List, [], _∷_, _++_}
 use lib.Dec.{eqb}
 use Rattle.insn.specs.Fields.{fieldsOf}
-use Rattle.insn.specs.Codes.{arithImmCode, arithCode, arithOneCode, multiplyCode, logicImmCode, logicCode, logicOneCode, compareImmCode, compareCode, rotateCode, shiftCode, loadCode, storeCode, loadIndexedCode, storeIndexedCode, loadDoubleCode, storeDoubleCode, branchCode, sprCode, moveCode, cacheCode}
+use Rattle.insn.specs.Codes.{arithImmCode, arithCode, arithOneCode, multiplyCode, logicImmCode, logicCode, logicOneCode, compareImmCode, compareCode, rotateCode, shiftCode, loadCode, storeCode, loadIndexedCode, storeIndexedCode, loadDoubleCode, storeDoubleCode, rotateDoubleCode, branchCode, sprCode, moveCode, cacheCode}
 use Rattle.insn.specs.Valid.{validOf}
+use Rattle.insn.specs.Profile.{has}
 use Rattle.insn.specs.Write.{wordOf}
+use Rattle.insn.specs.declared.profile.Profile.{Profile}
 use Rattle.insn.specs.declared.fields.Fields.{Fields}
 use Rattle.insn.specs.declared.instr.Instr.{Instr}
 use Rattle.insn.specs.declared.instr.Decoded.{Decoded}
@@ -25,6 +27,7 @@ use Rattle.insn.specs.declared.instr.LogicImmOp.{LogicImmOp}
 use Rattle.insn.specs.declared.instr.LogicOp.{LogicOp}
 use Rattle.insn.specs.declared.instr.LogicOneOp.{LogicOneOp}
 use Rattle.insn.specs.declared.instr.RotateOp.{RotateOp}
+use Rattle.insn.specs.declared.instr.RotateDoubleOp.{RotateDoubleOp}
 use Rattle.insn.specs.declared.instr.ShiftOp.{ShiftOp}
 use Rattle.insn.specs.declared.instr.BranchOp.{BranchOp}
 use Rattle.insn.specs.declared.instr.SprOp.{SprOp}
@@ -39,6 +42,7 @@ use Rattle.insn.specs.declared.instr.LogicImmOp.the-variants.{AndiDot, A
 use Rattle.insn.specs.declared.instr.LogicOp.the-variants.{And, Andc, Eqv, Nand, Nor, Or, Orc, Xor}
 use Rattle.insn.specs.declared.instr.LogicOneOp.the-variants.{Extsb, Extsh, Cntlzw}
 use Rattle.insn.specs.declared.instr.RotateOp.the-variants.{Rlwimi, Rlwinm}
+use Rattle.insn.specs.declared.instr.RotateDoubleOp.the-variants.{Rldicl, Rldicr, Rldimi}
 use Rattle.insn.specs.declared.instr.ShiftOp.the-variants.{Slw, Srw, Sraw}
 use Rattle.insn.specs.declared.instr.BranchOp.the-variants.{Bclr, Bcctr}
 use Rattle.insn.specs.declared.instr.SprOp.the-variants.{Mfspr, Mtspr}
@@ -59,6 +63,12 @@ arithOneAt op f = Instr.Arithmetic (Arithmetic.One op (f .rt) (f .ra) (f .oe) (f
 
 abbrev pub multiplyAt : Sign → Fields → Instr
 multiplyAt sign f = Instr.Arithmetic (Arithmetic.Multiply sign (f .rt) (f .ra) (f .rb) (f .rc))
+
+abbrev pub multiplyImmAt : Fields → Instr
+multiplyImmAt f = Instr.Arithmetic (Arithmetic.MultiplyImm (f .rt) (f .ra) (f .imm))
+
+abbrev pub multiplyLowAt : Fields → Instr
+multiplyLowAt f = Instr.Arithmetic (Arithmetic.MultiplyLow (f .rt) (f .ra) (f .rb) (f .oe) (f .rc))
 
 abbrev pub logicImmAt : LogicImmOp → Fields → Instr
 logicImmAt op f = Instr.Logical (Logical.Immediate op (f .rt) (f .ra) (f .imm))
@@ -86,6 +96,9 @@ shiftAt op f = Instr.Rotate (Rotate.Shift op (f .rt) (f .ra) (f .rb) (f .rc))
 
 abbrev pub srawiAt : Fields → Instr
 srawiAt f = Instr.Rotate (Rotate.Srawi (f .rt) (f .ra) (f .rb) (f .rc))
+
+abbrev pub rotateDoubleAt : RotateDoubleOp → Fields → Instr
+rotateDoubleAt op f = Instr.Rotate (Rotate.Double op (f .rt) (f .ra) (f .sh) (f .mb6) (f .rc))
 
 abbrev pub loadAt : Width → Bool → Fields → Instr
 loadAt width update f = Instr.LoadStore (LoadStore.Load width update (f .rt) (f .ra) (f .imm))
@@ -177,7 +190,7 @@ logicalRows =
 
 -- extended opcodes of XO forms under primary opcode 31
 unfoldable pub arithmeticRows : List Row
-arithmeticRows = rows arithCode arithAt (Add ∷ Addc ∷ Adde ∷ Subf ∷ Subfc ∷ Subfe ∷ []) ++ rows arithOneCode arithOneAt (Addme ∷ Addze ∷ Subfme ∷ Subfze ∷ Neg ∷ [])
+arithmeticRows = rows arithCode arithAt (Add ∷ Addc ∷ Adde ∷ Subf ∷ Subfc ∷ Subfe ∷ []) ++ rows arithOneCode arithOneAt (Addme ∷ Addze ∷ Subfme ∷ Subfze ∷ Neg ∷ []) ++ (row 235 multiplyLowAt ∷ [])
 
 -- extended opcodes under primary opcodes 19 and 4
 unfoldable pub rows19 : List Row
@@ -185,6 +198,10 @@ rows19 = rows branchCode branchToAt (Bclr ∷ Bcctr ∷ []) ++ (row 50 rfiAt ∷
 
 unfoldable pub rows4 : List Row
 rows4 = rows multiplyCode multiplyAt (Signed ∷ Unsigned ∷ [])
+
+-- extended opcodes of MD forms
+unfoldable pub rows30 : List Row
+rows30 = rows rotateDoubleCode rotateDoubleAt (Rldicl ∷ Rldicr ∷ Rldimi ∷ [])
 
 unfoldable pub system : ℕ → Fields → Decoded
 system x = find systemRows nothing x
@@ -204,7 +221,16 @@ opcode19 x = find rows19 nothing x
 unfoldable pub opcode4 : ℕ → Fields → Decoded
 opcode4 x = find rows4 nothing x
 
--- primary opcodes
+unfoldable pub opcode30 : ℕ → Fields → Decoded
+opcode30 md = find rows30 nothing md
+
+-- primary opcodes, the 42X's apart
+unfoldable pub addedRows : List Row
+addedRows = row 7 multiplyImmAt ∷ (30, λ f. opcode30 (f .md) f) ∷ []
+
+unfoldable pub added : ℕ → Fields → Decoded
+added op = find addedRows nothing op
+
 unfoldable pub loadStoreRows : List Row
 loadStoreRows =
     rows (λ width. loadCode width false) (λ width. loadAt width false) (Byte ∷ Half ∷ Word ∷ [])
@@ -215,7 +241,7 @@ loadStoreRows =
     ++ rows storeDoubleCode storeDoubleAt (false ∷ true ∷ [])
 
 unfoldable pub loadStore : ℕ → Fields → Decoded
-loadStore op = find loadStoreRows nothing op
+loadStore op = find loadStoreRows (added op) op
 
 unfoldable pub primaryRows : List Row
 primaryRows =
@@ -241,3 +267,11 @@ settled w Decoded.Illegal = Decoded.Illegal
 
 unfoldable pub decodeOf : ℕ → Decoded
 decodeOf w = settled w (guessOf (fieldsOf w))
+
+-- what this core has not is illegal on it
+abbrev pub keptOn : Profile → Decoded → Decoded
+keptOn p (Decoded.Insn i) = cond (has p i) (Decoded.Insn i) Decoded.Illegal
+keptOn p Decoded.Illegal = Decoded.Illegal
+
+unfoldable pub decodeOn : Profile → ℕ → Decoded
+decodeOn p w = keptOn p (decodeOf w)

@@ -74,6 +74,14 @@ branchForm BranchOp.Bcctr bo = boBit bo 2
 abbrev pub isTo : ℕ → Bool
 isTo to = eqb to 0 || eqb to 31
 
+-- tw without TG, and any on the 42 (Table 1.96)
+abbrev pub trapForm : ℕ → ℕ → ℕ → Bool
+trapForm to ra rb = isTo to && twoRegs ra rb
+
+-- with TG a 42X takes whatever stands in the three fields (9.4.103)
+abbrev pub markForm : ℕ → ℕ → ℕ → Bool → Bool
+markForm to ra rb tg = tg && fits 5 to && fits 5 ra && fits 5 rb
+
 -- what may stand in 6:10 of dcbf (9:10 are hints, 9.4.30), dcbi, dcbt (all are hints, 9.4.33) and dcbz (docs/DECISIONS.md D1, D3)
 abbrev pub hintOk : CacheOp → ℕ → Bool
 hintOk CacheOp.Dcbf hint = fits 2 hint
@@ -81,12 +89,14 @@ hintOk CacheOp.Dcbi hint = eqb hint 0
 hintOk CacheOp.Dcbt hint = fits 5 hint
 hintOk CacheOp.Dcbz hint = eqb hint 0
 
--- registers must be defined ("Restrictions" of each section); BI names a bit of CR0, so 11:13 are 000 (9.4.15, 9.4.16, 9.4.17)
+-- on a 42X, which has every instruction here; a 42 has those of Profile. Registers must be defined ("Restrictions" of each section); BI names a bit of CR0, so 11:13 are 000 (9.4.15, 9.4.16, 9.4.17)
 abbrev pub validOf : Instr → Bool
 validOf (Instr.Arithmetic (Arithmetic.Immediate op rt ra si)) = fits 16 si && twoRegs rt ra
 validOf (Instr.Arithmetic (Arithmetic.Register op rt ra rb oe rc)) = threeRegs rt ra rb
 validOf (Instr.Arithmetic (Arithmetic.One op rt ra oe rc)) = twoRegs rt ra
 validOf (Instr.Arithmetic (Arithmetic.Multiply sign rt ra rb rc)) = threeRegs rt ra rb
+validOf (Instr.Arithmetic (Arithmetic.MultiplyImm rt ra si)) = fits 16 si && twoRegs rt ra
+validOf (Instr.Arithmetic (Arithmetic.MultiplyLow rt ra rb oe rc)) = threeRegs rt ra rb
 validOf (Instr.Logical (Logical.Immediate op rs ra ui)) = fits 16 ui && twoRegs rs ra
 validOf (Instr.Logical (Logical.Register op rs ra rb rc)) = threeRegs rs ra rb
 validOf (Instr.Logical (Logical.One op rs ra rc)) = twoRegs rs ra
@@ -96,6 +106,7 @@ validOf (Instr.Rotate (Rotate.Immediate op rs ra sh mb me rc)) = twoRegs rs ra &
 validOf (Instr.Rotate (Rotate.Register rs ra rb mb me rc)) = threeRegs rs ra rb && fits 5 mb && fits 5 me
 validOf (Instr.Rotate (Rotate.Shift op rs ra rb rc)) = threeRegs rs ra rb
 validOf (Instr.Rotate (Rotate.Srawi rs ra sh rc)) = twoRegs rs ra && fits 5 sh
+validOf (Instr.Rotate (Rotate.Double op ds da sh mb rc)) = isVdr ds && isVdr da && fits 6 sh && fits 6 mb
 validOf (Instr.LoadStore (LoadStore.Load width update rt ra d)) = fits 16 d && (twoRegs rt ra && loadForm update rt ra)
 validOf (Instr.LoadStore (LoadStore.LoadIndexed width rt ra rb)) = threeRegs rt ra rb
 validOf (Instr.LoadStore (LoadStore.Store width update rs ra d)) = fits 16 d && (twoRegs rs ra && storeForm update ra)
@@ -105,7 +116,7 @@ validOf (Instr.LoadStore (LoadStore.StoreDouble update ds ra d)) = fits 16 d && 
 validOf (Instr.Branch (Branch.Always aa lk li)) = fits 24 li
 validOf (Instr.Branch (Branch.Conditional bo bi bd aa lk)) = fits 5 bo && fits 2 bi && fits 14 bd
 validOf (Instr.Branch (Branch.Register op bo bi bh lk)) = fits 5 bo && fits 2 bi && fits 2 bh && branchForm op bo
-validOf (Instr.Trap to ra rb tg) = isTo to && twoRegs ra rb
+validOf (Instr.Trap to ra rb tg) = markForm to ra rb tg || trapForm to ra rb
 validOf (Instr.System (System.Spr op rt spr)) = regOf rt && sprOk op spr
 validOf (Instr.System (System.Move op rt)) = regOf rt
 validOf (Instr.System (System.Wrteei e)) = true

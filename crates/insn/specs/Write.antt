@@ -1,10 +1,12 @@
--- The word of each form of instruction, and what writing one gives: its word, or refusal 6 and word 0.
+-- The word of each form of instruction, and what writing one gives on a 42X, and on either core: its word, or refusal 6 and word 0.
 use Prim.Native.Nat.{ℕ}
 use mathlib.Core.Bool.{Bool, false, cond}
 use Rattle.word.specs.Bits.{bitsAt}
-use Rattle.insn.specs.Fields.{wordD, wordX, wordXO, wordXFX, wordE, wordM, wordB, wordI}
-use Rattle.insn.specs.Codes.{arithImmCode, arithCode, arithOneCode, multiplyCode, logicImmCode, logicCode, logicOneCode, compareImmCode, compareCode, rotateCode, shiftCode, loadCode, storeCode, loadIndexedCode, storeIndexedCode, loadDoubleCode, storeDoubleCode, branchCode, sprCode, moveCode, moveFxm, cacheCode}
+use Rattle.insn.specs.Fields.{wordD, wordX, wordXO, wordXFX, wordE, wordM, wordMD, wordB, wordI}
+use Rattle.insn.specs.Codes.{arithImmCode, arithCode, arithOneCode, multiplyCode, logicImmCode, logicCode, logicOneCode, compareImmCode, compareCode, rotateCode, shiftCode, loadCode, storeCode, loadIndexedCode, storeIndexedCode, loadDoubleCode, storeDoubleCode, rotateDoubleCode, branchCode, sprCode, moveCode, moveFxm, cacheCode}
 use Rattle.insn.specs.Valid.{validOf}
+use Rattle.insn.specs.Profile.{validOn}
+use Rattle.insn.specs.declared.profile.Profile.{Profile}
 use Rattle.insn.specs.declared.instr.Instr.{Instr}
 use Rattle.insn.specs.declared.instr.Arithmetic.{Arithmetic}
 use Rattle.insn.specs.declared.instr.Logical.{Logical}
@@ -20,6 +22,8 @@ wordOf (Instr.Arithmetic (Arithmetic.Immediate op rt ra si)) = wordD (arithImmCo
 wordOf (Instr.Arithmetic (Arithmetic.Register op rt ra rb oe rc)) = wordXO rt ra rb oe (arithCode op) rc
 wordOf (Instr.Arithmetic (Arithmetic.One op rt ra oe rc)) = wordXO rt ra 0 oe (arithOneCode op) rc
 wordOf (Instr.Arithmetic (Arithmetic.Multiply sign rt ra rb rc)) = wordX 4 rt ra rb (multiplyCode sign) rc
+wordOf (Instr.Arithmetic (Arithmetic.MultiplyImm rt ra si)) = wordD 7 rt ra si  -- mulli 9.4.60
+wordOf (Instr.Arithmetic (Arithmetic.MultiplyLow rt ra rb oe rc)) = wordXO rt ra rb oe 235 rc  -- mullw 9.4.61
 wordOf (Instr.Logical (Logical.Immediate op rs ra ui)) = wordD (logicImmCode op) rs ra ui
 wordOf (Instr.Logical (Logical.Register op rs ra rb rc)) = wordX 31 rs ra rb (logicCode op) rc
 wordOf (Instr.Logical (Logical.One op rs ra rc)) = wordX 31 rs ra 0 (logicOneCode op) rc
@@ -29,6 +33,7 @@ wordOf (Instr.Rotate (Rotate.Immediate op rs ra sh mb me rc)) = wordM (rotateCod
 wordOf (Instr.Rotate (Rotate.Register rs ra rb mb me rc)) = wordM 23 rs ra rb mb me rc  -- rlwnm 9.4.75
 wordOf (Instr.Rotate (Rotate.Shift op rs ra rb rc)) = wordX 31 rs ra rb (shiftCode op) rc
 wordOf (Instr.Rotate (Rotate.Srawi rs ra sh rc)) = wordX 31 rs ra sh 824 rc  -- 9.4.79
+wordOf (Instr.Rotate (Rotate.Double op ds da sh mb rc)) = wordMD ds da (bitsAt sh 27 31) (bitsAt mb 27 31) (bitsAt mb 26 26) (rotateDoubleCode op) (bitsAt sh 26 26) rc
 wordOf (Instr.LoadStore (LoadStore.Load width update rt ra d)) = wordD (loadCode width update) rt ra d
 wordOf (Instr.LoadStore (LoadStore.LoadIndexed width rt ra rb)) = wordX 31 rt ra rb (loadIndexedCode width) false
 wordOf (Instr.LoadStore (LoadStore.Store width update rs ra d)) = wordD (storeCode width update) rs ra d
@@ -51,3 +56,6 @@ writtenIf valid w = cond valid (record { refusal = 0; word = w }) (record { refu
 
 abbrev pub writtenOf : Instr → Written
 writtenOf i = writtenIf (validOf i) (wordOf i)
+
+abbrev pub writtenOn : Profile → Instr → Written
+writtenOn p i = writtenIf (validOn p i) (wordOf i)

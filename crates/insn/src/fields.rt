@@ -1,6 +1,6 @@
 // The parts of a word, and words made of parts (Power ISA 2.07, instruction formats).
 ghost use mathlib.Core.Path.{_≡_};
-ghost use Rattle.insn.specs.Fields.{fieldsOf, sprOf, wordD, wordX, wordXO, wordXFX, wordE, wordM, wordB, wordI};
+ghost use Rattle.insn.specs.Fields.{fieldsOf, sprOf, shOf, mbOf, wordD, wordX, wordXO, wordXFX, wordE, wordM, wordMD, wordB, wordI};
 use word::bits::*;
 
 // A word and each of its parts that some form names.
@@ -17,7 +17,10 @@ pub struct Fields {
     pub imm: u16,
     pub bd: u16,
     pub li: u32,
+    pub md: u8,
     pub spr: u16,
+    pub sh: u8,
+    pub mb6: u8,
     pub e: bool,
     pub oe: bool,
     pub aa: bool,
@@ -40,7 +43,10 @@ pub fn fields_of(word: u32) -> Fields
         imm: bits_at(word, Bit(16), Bit(31)) as u16,
         bd: bits_at(word, Bit(16), Bit(29)) as u16,
         li: bits_at(word, Bit(6), Bit(29)),
+        md: bits_at(word, Bit(27), Bit(29)) as u8,
         spr: spr_of(word),
+        sh: sh_of(word),
+        mb6: mb_of(word),
         e: bit_at(word, Bit(16)),
         oe: bit_at(word, Bit(21)),
         aa: bit_at(word, Bit(30)),
@@ -55,6 +61,24 @@ fn spr_of(word: u32) -> u16
     let high = field_at(Bit(22), Bit(26), bits_at(word, Bit(16), Bit(20)));
     let low = field_at(Bit(27), Bit(31), bits_at(word, Bit(11), Bit(15)));
     (high + low) as u16
+}
+
+// SH of a doubleword: its first bit stands apart.
+fn sh_of(word: u32) -> u8
+    ensures { λ r. ⌜ r ≡ shOf word ⌝ }
+{
+    let high = field_at(Bit(26), Bit(26), bits_at(word, Bit(30), Bit(30)));
+    let low = field_at(Bit(27), Bit(31), bits_at(word, Bit(16), Bit(20)));
+    (high + low) as u8
+}
+
+// MB or ME of a doubleword: its first bit comes last.
+fn mb_of(word: u32) -> u8
+    ensures { λ r. ⌜ r ≡ mbOf word ⌝ }
+{
+    let high = field_at(Bit(26), Bit(26), bits_at(word, Bit(26), Bit(26)));
+    let low = field_at(Bit(27), Bit(31), bits_at(word, Bit(21), Bit(25)));
+    (high + low) as u8
 }
 
 pub fn word_d(op: u32, rt: u8, ra: u8, imm: u16) -> u32
@@ -115,6 +139,20 @@ pub fn word_m(op: u32, rs: u8, ra: u8, rb: u16, mb: u8, me: u8, rc: bool) -> u32
         + field_at(Bit(16), Bit(20), rb as u32)
         + field_at(Bit(21), Bit(25), mb as u32)
         + field_at(Bit(26), Bit(30), me as u32)
+        + field_at(Bit(31), Bit(31), digit_of(rc))
+}
+
+pub fn word_md(ds: u8, da: u8, sh: u32, mb: u32, mb5: u32, md: u32, sh5: u32, rc: bool) -> u32
+    ensures { λ r. ⌜ r ≡ wordMD ds da sh mb mb5 md sh5 rc ⌝ }
+{
+    field_at(Bit(0), Bit(5), 30)
+        + field_at(Bit(6), Bit(10), ds as u32)
+        + field_at(Bit(11), Bit(15), da as u32)
+        + field_at(Bit(16), Bit(20), sh)
+        + field_at(Bit(21), Bit(25), mb)
+        + field_at(Bit(26), Bit(26), mb5)
+        + field_at(Bit(27), Bit(29), md)
+        + field_at(Bit(30), Bit(30), sh5)
         + field_at(Bit(31), Bit(31), digit_of(rc))
 }
 

@@ -63,6 +63,18 @@ pub fn multiply(sign: Sign, rt: u8, ra: u8, rb: u8, rc: bool) -> Written
     )
 }
 
+pub fn multiply_imm(rt: u8, ra: u8, si: u16) -> Written
+    ensures { λ r. ⌜ r ≡ writtenOf (Instr.Arithmetic (Arithmetic.MultiplyImm rt ra si)) ⌝ }
+{
+    written(two_defined(rt, ra), word_d(7, rt, ra, si))
+}
+
+pub fn multiply_low(rt: u8, ra: u8, rb: u8, oe: bool, rc: bool) -> Written
+    ensures { λ r. ⌜ r ≡ writtenOf (Instr.Arithmetic (Arithmetic.MultiplyLow rt ra rb oe rc)) ⌝ }
+{
+    written(three_defined(rt, ra, rb), word_xo(rt, ra, rb, oe, 235, rc))
+}
+
 pub fn logic_imm(op: LogicImmOp, rs: u8, ra: u8, ui: u16) -> Written
     ensures { λ r. ⌜ r ≡ writtenOf (Instr.Logical (Logical.Immediate op rs ra ui)) ⌝ }
 {
@@ -131,6 +143,21 @@ pub fn srawi(rs: u8, ra: u8, sh: u8, rc: bool) -> Written
     written(
         two_defined(rs, ra) & (sh < 32),
         word_x(31, rs, ra, sh, 824, rc),
+    )
+}
+
+pub fn rotate_double(op: RotateDoubleOp, ds: u8, da: u8, sh: u8, mb: u8, rc: bool) -> Written
+    ensures { λ r. ⌜ r ≡ writtenOf (Instr.Rotate (Rotate.Double op ds da sh mb rc)) ⌝ }
+{
+    let valid = is_vdr(ds) & is_vdr(da) & (sh < 64) & (mb < 64);
+    let sh_low = bits_at(sh as u32, Bit(27), Bit(31));
+    let sh_first = bits_at(sh as u32, Bit(26), Bit(26));
+    let mb_low = bits_at(mb as u32, Bit(27), Bit(31));
+    let mb_first = bits_at(mb as u32, Bit(26), Bit(26));
+    let md = rotate_double_code(op);
+    written(
+        valid,
+        word_md(ds, da, sh_low, mb_low, mb_first, md, sh_first, rc),
     )
 }
 
@@ -205,10 +232,8 @@ pub fn branch_to(op: BranchOp, bo: u8, bi: u8, bh: u8, lk: bool) -> Written
 pub fn trap(to: u8, ra: u8, rb: u8, tg: bool) -> Written
     ensures { λ r. ⌜ r ≡ writtenOf (Instr.Trap to ra rb tg) ⌝ }
 {
-    written(
-        is_to(to) & two_defined(ra, rb),
-        word_x(31, to, ra, rb, 4, tg),
-    )
+    let valid = mark_form(to, ra, rb, tg) | trap_form(to, ra, rb);
+    written(valid, word_x(31, to, ra, rb, 4, tg))
 }
 
 pub fn move_spr(op: SprOp, rt: u8, spr: u16) -> Written

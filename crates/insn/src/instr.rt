@@ -1,4 +1,4 @@
-// The instructions of 9.4 by family, form and mnemonic. What the core ignores or takes for a hint (BO's z, a and t, BH, TG, the
+// The instructions of 9.4 by family, form and mnemonic, the 42X's among them. What a core ignores or takes for a hint (BO's z, a and t, BH, TG, the
 // hints of dcbf and dcbt) is kept, so that two words never read as one instruction.
 
 use word::width::Width;
@@ -68,6 +68,20 @@ pub enum Arithmetic {
         rb: u8,
         rc: bool,
     },
+    // mulli
+    MultiplyImm {
+        rt: u8,
+        ra: u8,
+        si: u16,
+    },
+    // mullw
+    MultiplyLow {
+        rt: u8,
+        ra: u8,
+        rb: u8,
+        oe: bool,
+        rc: bool,
+    },
 }
 
 pub enum Logical {
@@ -130,6 +144,15 @@ pub enum Rotate {
         rs: u8,
         ra: u8,
         sh: u8,
+        rc: bool,
+    },
+    // over pairs; mb is ME of rldicr
+    Double {
+        op: RotateDoubleOp,
+        ds: u8,
+        da: u8,
+        sh: u8,
+        mb: u8,
         rc: bool,
     },
 }
@@ -265,6 +288,12 @@ pub enum LogicOneOp {
 pub enum RotateOp {
     Rlwimi,
     Rlwinm,
+}
+
+pub enum RotateDoubleOp {
+    Rldicl,
+    Rldicr,
+    Rldimi,
 }
 
 pub enum ShiftOp {

@@ -8,10 +8,12 @@ ghost use Rattle.insn.specs.Fields.{fieldsOf};
 ghost use Rattle.insn.specs.Valid.{validOf};
 ghost use Rattle.insn.specs.Write.{writtenOf};
 ghost use Rattle.insn.specs.declared.instr.Decoded.{Decoded};
-ghost use Rattle.insn.specs.Read.{settleOf, settled, decodeOf, loadStore, opcode4, opcode19, arithmetic, logical, storage, system, arithImmAt, arithAt, arithOneAt, multiplyAt, logicImmAt, logicAt, logicOneAt, compareImmAt, compareAt, rotateImmAt, rotateAt, shiftAt, srawiAt, loadAt, loadIndexedAt, storeAt, storeIndexedAt, loadDoubleAt, storeDoubleAt, branchAt, branchIfAt, branchToAt, trapAt, moveSprAt, moveRegAt, wrteeiAt, rfiAt, syncAt, cacheAt};
+ghost use Rattle.insn.specs.Read.{settleOf, settled, decodeOf, keptOn, decodeOn, loadStore, added, opcode4, opcode19, opcode30, arithmetic, logical, storage, system, arithImmAt, arithAt, arithOneAt, multiplyAt, multiplyImmAt, multiplyLowAt, logicImmAt, logicAt, logicOneAt, compareImmAt, compareAt, rotateImmAt, rotateAt, shiftAt, srawiAt, rotateDoubleAt, loadAt, loadIndexedAt, storeAt, storeIndexedAt, loadDoubleAt, storeDoubleAt, branchAt, branchIfAt, branchToAt, trapAt, moveSprAt, moveRegAt, wrteeiAt, rfiAt, syncAt, cacheAt};
 use crate::fields::fields_of;
 use crate::forms;
 use crate::instr::*;
+use crate::profile::Profile;
+use crate::profile::has;
 use word::width::Width;
 
 // The primary opcode.
@@ -38,8 +40,37 @@ fn xo_opcode(word: u32) -> u16
     f.xo
 }
 
+// The extended opcode of an MD form.
+fn md_opcode(word: u32) -> u8
+    ensures { λ r. ⌜ r ≡ fieldsOf word .md ⌝ }
+{
+    let f = fields_of(word);
+    f.md
+}
+
+// As the 42X reads it, where this core has the instruction.
+pub fn read(profile: Profile, word: u32) -> Decoded
+    ensures { λ r. ⌜ r ≡ decodeOn profile word ⌝ }
+{
+    let what = read_42x(word);
+    match what {
+        Decoded::Insn(i) => keep(profile, i),
+        Decoded::Illegal => Decoded::Illegal,
+    }
+}
+
+fn keep(profile: Profile, i: Instr) -> Decoded
+    ensures { λ r. ⌜ r ≡ keptOn profile (Decoded.Insn i) ⌝ }
+{
+    if has(profile, i) {
+        Decoded::Insn(i)
+    } else {
+        Decoded::Illegal
+    }
+}
+
 // By the primary opcode.
-pub fn read(word: u32) -> Decoded
+fn read_42x(word: u32) -> Decoded
     ensures { λ r. ⌜ r ≡ decodeOf word ⌝ }
 {
     let op = opcode(word);
@@ -90,6 +121,32 @@ fn read_load_store(word: u32) -> Decoded
         9 => load_double(word, true),
         6 => store_double(word, false),
         22 => store_double(word, true),
+        _ => read_added(word),
+    }
+}
+
+// What the 42X adds.
+fn read_added(word: u32) -> Decoded
+    ensures { λ r. ⌜ r ≡ settled word (added (fieldsOf word .op) (fieldsOf word)) ⌝ }
+{
+    let op = opcode(word);
+    match op {
+        7 => multiply_imm(word),
+        30 => read_30(word),
+        _ => Decoded::Illegal,
+    }
+}
+
+// By the extended opcode under primary opcode 30.
+fn read_30(word: u32) -> Decoded
+    requires { ⌜ fieldsOf word .op ≡ 30 ⌝ }
+    ensures { λ r. ⌜ r ≡ settled word (opcode30 (fieldsOf word .md) (fieldsOf word)) ⌝ }
+{
+    let md = md_opcode(word);
+    match md {
+        0 => rotate_double(word, RotateDoubleOp::Rldicl),
+        1 => rotate_double(word, RotateDoubleOp::Rldicr),
+        3 => rotate_double(word, RotateDoubleOp::Rldimi),
         _ => Decoded::Illegal,
     }
 }
@@ -138,6 +195,7 @@ fn read_31(word: u32) -> Decoded
         232 => arith_one(word, ArithOneOp::Subfme),
         200 => arith_one(word, ArithOneOp::Subfze),
         104 => arith_one(word, ArithOneOp::Neg),
+        235 => multiply_low(word),
         _ => read_logical(word),
     }
 }
@@ -290,6 +348,34 @@ fn multiply(word: u32, sign: Sign) -> Decoded
     settle_whole(i, forms::multiply(sign, f.rt, f.ra, f.rb, f.rc))
 }
 
+fn multiply_imm(word: u32) -> Decoded
+    requires { ⌜ fieldsOf word .op ≡ 7 ⌝ }
+    ensures { λ r. ⌜ r ≡ settleOf word (multiplyImmAt (fieldsOf word)) ⌝ }
+{
+    let f = fields_of(word);
+    let i = Instr::Arithmetic(Arithmetic::MultiplyImm {
+        rt: f.rt,
+        ra: f.ra,
+        si: f.imm,
+    });
+    settle_whole(i, forms::multiply_imm(f.rt, f.ra, f.imm))
+}
+
+fn multiply_low(word: u32) -> Decoded
+    requires { ⌜ (fieldsOf word .op ≡ 31) × (fieldsOf word .xo ≡ 235) ⌝ }
+    ensures { λ r. ⌜ r ≡ settleOf word (multiplyLowAt (fieldsOf word)) ⌝ }
+{
+    let f = fields_of(word);
+    let i = Instr::Arithmetic(Arithmetic::MultiplyLow {
+        rt: f.rt,
+        ra: f.ra,
+        rb: f.rb,
+        oe: f.oe,
+        rc: f.rc,
+    });
+    settle_whole(i, forms::multiply_low(f.rt, f.ra, f.rb, f.oe, f.rc))
+}
+
 fn logic_imm(word: u32, op: LogicImmOp) -> Decoded
     requires { ⌜ fieldsOf word .op ≡ logicImmCode op ⌝ }
     ensures { λ r. ⌜ r ≡ settleOf word (logicImmAt op (fieldsOf word)) ⌝ }
@@ -419,6 +505,25 @@ fn srawi(word: u32) -> Decoded
         rc: f.rc,
     });
     settle_whole(i, forms::srawi(f.rt, f.ra, f.rb, f.rc))
+}
+
+fn rotate_double(word: u32, op: RotateDoubleOp) -> Decoded
+    ensures { λ r. ⌜ r ≡ settleOf word (rotateDoubleAt op (fieldsOf word)) ⌝ }
+{
+    let f = fields_of(word);
+    let i = Instr::Rotate(Rotate::Double {
+        op,
+        ds: f.rt,
+        da: f.ra,
+        sh: f.sh,
+        mb: f.mb6,
+        rc: f.rc,
+    });
+    settle(
+        word,
+        i,
+        forms::rotate_double(op, f.rt, f.ra, f.sh, f.mb6, f.rc),
+    )
 }
 
 fn load(word: u32, width: Width, update: bool) -> Decoded

@@ -1,7 +1,7 @@
 // Which registers there are, which special-purpose registers have a number, and which forms are valid.
 ghost use mathlib.Core.Path.{_≡_};
 ghost use Prim.Native.Nat.{_<_};
-ghost use Rattle.insn.specs.Valid.{regOf, twoRegs, threeRegs, pairedWith, isVdr, isSpr, readOnly, sprOk, loadForm, storeForm, loadDoubleForm, boBit, branchForm, isTo, hintOk};
+ghost use Rattle.insn.specs.Valid.{regOf, twoRegs, threeRegs, pairedWith, isVdr, isSpr, readOnly, sprOk, loadForm, storeForm, loadDoubleForm, boBit, branchForm, isTo, trapForm, markForm, hintOk};
 use crate::instr::*;
 use word::bits::Bit;
 use word::bits::bit_at;
@@ -114,6 +114,18 @@ pub fn is_to(to: u8) -> bool
     ensures { λ r. ⌜ r ≡ isTo to ⌝ }
 {
     (to == 0) | (to == 31)
+}
+
+pub fn trap_form(to: u8, ra: u8, rb: u8) -> bool
+    ensures { λ r. ⌜ r ≡ trapForm to ra rb ⌝ }
+{
+    is_to(to) & two_defined(ra, rb)
+}
+
+pub fn mark_form(to: u8, ra: u8, rb: u8, tg: bool) -> bool
+    ensures { λ r. ⌜ r ≡ markForm to ra rb tg ⌝ }
+{
+    tg & (to < 32) & (ra < 32) & (rb < 32)
 }
 
 pub fn hint_ok(op: CacheOp, hint: u8) -> bool

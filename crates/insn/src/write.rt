@@ -1,11 +1,23 @@
-// An instruction as its word, or refused with 6: by family, then by form.
+// An instruction as its word, or refused with 6: on a 42X by family, then by form.
 ghost use mathlib.Core.Path.{_≡_};
-ghost use Rattle.insn.specs.Write.{writtenOf};
+ghost use Rattle.insn.specs.Write.{writtenOf, writtenOn};
 ghost use Rattle.insn.specs.declared.instr.Instr.{Instr};
 use crate::forms;
 use crate::instr::*;
+use crate::profile::Profile;
+use crate::profile::has;
 
-pub fn write(i: Instr) -> Written
+pub fn write(profile: Profile, i: Instr) -> Written
+    ensures { λ r. ⌜ r ≡ writtenOn profile i ⌝ }
+{
+    if has(profile, i) {
+        write_42x(i)
+    } else {
+        forms::written(false, 0)
+    }
+}
+
+pub fn write_42x(i: Instr) -> Written
     ensures { λ r. ⌜ r ≡ writtenOf i ⌝ }
 {
     match i {
@@ -42,6 +54,8 @@ fn arithmetic(a: Arithmetic) -> Written
             rb,
             rc,
         } => forms::multiply(sign, rt, ra, rb, rc),
+        Arithmetic::MultiplyImm { rt, ra, si } => forms::multiply_imm(rt, ra, si),
+        Arithmetic::MultiplyLow { rt, ra, rb, oe, rc } => forms::multiply_low(rt, ra, rb, oe, rc),
     }
 }
 
@@ -87,6 +101,14 @@ fn rotate(r: Rotate) -> Written
         } => forms::rotate(rs, ra, rb, mb, me, rc),
         Rotate::Shift { op, rs, ra, rb, rc } => forms::shift(op, rs, ra, rb, rc),
         Rotate::Srawi { rs, ra, sh, rc } => forms::srawi(rs, ra, sh, rc),
+        Rotate::Double {
+            op,
+            ds,
+            da,
+            sh,
+            mb,
+            rc,
+        } => forms::rotate_double(op, ds, da, sh, mb, rc),
     }
 }
 

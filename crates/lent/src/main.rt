@@ -1,8 +1,10 @@
 // Lends a state to the single step, turn after turn, and says whether it ends where a run ends.
 ghost use mathlib.Core.Path.{_≡_};
+ghost use Rattle.insn.specs.declared.profile.Profile.{Profile};
 ghost use mathlib.Core.List.{[]};
 ghost use Rattle.run.specs.Outcome.{stepOutcome, stepMemory};
 ghost use Rattle.run.specs.Lent.{lentOf};
+use insn::profile::Profile;
 use libc::STDOUT_FILENO;
 use machine::state::State;
 use run::lent::Answer;
@@ -29,7 +31,7 @@ fn joined(state: State, answer: Answer) -> Outcome
 
 // A step by lending is the step by value.
 fn lend(mut state: State, mem: &mut [u8], event: u8) -> Outcome
-    ensures { λ r. ⌜ (r ≡ stepOutcome state (now (mem .entry)) event) × (now (mem .exit) ≡ stepMemory state (now (mem .entry)) event) ⌝ }
+    ensures { λ r. ⌜ (r ≡ stepOutcome Profile.Ppe42 state (now (mem .entry)) event) × (now (mem .exit) ≡ stepMemory Profile.Ppe42 state (now (mem .entry)) event) ⌝ }
 {
     let answer = step_lent(&mut state, mem, event);
     joined(state, answer)
@@ -37,7 +39,7 @@ fn lend(mut state: State, mem: &mut [u8], event: u8) -> Outcome
 
 // Lends the state `budget` times; one that has halted answers no step and stays.
 fn lent_run(start: State, mem: &mut [u8], budget: u32) -> Left
-    ensures { λ r. ⌜ (r .state ≡ lentOf budget 0 [] start (now (mem .entry)) .st) × ((r .steps ≡ lentOf budget 0 [] start (now (mem .entry)) .steps) × (now (mem .exit) ≡ lentOf budget 0 [] start (now (mem .entry)) .mem)) ⌝ }
+    ensures { λ r. ⌜ (r .state ≡ lentOf Profile.Ppe42 budget 0 [] start (now (mem .entry)) .st) × ((r .steps ≡ lentOf Profile.Ppe42 budget 0 [] start (now (mem .entry)) .steps) × (now (mem .exit) ≡ lentOf Profile.Ppe42 budget 0 [] start (now (mem .entry)) .mem)) ⌝ }
 {
     let mut state = start;
     let mut steps = 0;
@@ -81,7 +83,7 @@ fn main() {
     let start = capture::words::state_of_words([0; 36]);
     let mut mem = program();
     let mut lent = program();
-    let outcome = run::run::run(start, &mut mem, b"", 1000);
+    let outcome = run::run::run(Profile::Ppe42, start, &mut mem, b"", 1000);
     let left = lent_run(start, &mut lent, 1000);
     let state = outcome.state;
     let other = left.state;

@@ -1,6 +1,6 @@
 -- A step from a running core leaves a halt code from 0 to 5, and 0 or 1 if it reached past its memory. Assumes nothing.
 use Prim.Native.Nat.{ℕ, _≤_}
-use mathlib.Core.Bool.{Bool, true, false}
+use mathlib.Core.Bool.{Bool, true, false, _&&_, _||_}
 use mathlib.Core.List.{List}
 use mathlib.Core.Path.{_≡_, refl, sym}
 use lib.Dec.{eqb, lit≤}
@@ -16,7 +16,9 @@ use Rattle.memory.specs.Load.{loaded, loadOf, loadedDouble, loadDoubleOf, fetch
 use Rattle.memory.specs.Store.{blockAt}
 use Rattle.memory.specs.declared.access.Access.{Access}
 use Rattle.memory.specs.declared.load.Loaded.{Loaded}
-use Rattle.insn.specs.Read.{decodeOf}
+use Rattle.insn.specs.Profile.{is42x}
+use Rattle.insn.specs.Read.{decodeOn}
+use Rattle.insn.specs.declared.profile.Profile.{Profile}
 use Rattle.insn.specs.declared.instr.Instr.{Instr}
 use Rattle.insn.specs.declared.instr.Decoded.{Decoded}
 use Rattle.insn.specs.declared.instr.Arithmetic.{Arithmetic}
@@ -33,8 +35,8 @@ use Rattle.insn.specs.declared.instr.MoveOp.{MoveOp}
 use Rattle.machine.specs.State.{same, with, withGpr, withVdr}
 use Rattle.machine.specs.Interrupt.{enteredOf, vectorFor, accessNoted, programNoted, notedOf, promotedOf, codeOf, haltedOf, takenFor, interruptedOf}
 use Rattle.machine.specs.Timer.{eventNoted, tickedOf, actsOf, actedOf}
-use Rattle.machine.specs.Result.{nextOf, cr0Of, recordedOf, carriedOf, overflowedOf, resultOf}
-use Rattle.machine.specs.Arithmetic.{summedOf, arithmeticOf}
+use Rattle.machine.specs.Result.{nextOf, cr0Of, recordedOf, carriedOf, overflowedOf, resultOf, recordedDoubleOf, doubleResultOf}
+use Rattle.machine.specs.Arithmetic.{summedOf, multipliedOf, arithmeticOf}
 use Rattle.machine.specs.Logical.{logicalOf}
 use Rattle.machine.specs.Compare.{comparedOf, compareOf}
 use Rattle.machine.specs.Rotate.{shiftedOf, shiftOf, rotateOf}
@@ -97,9 +99,9 @@ module _ {n : ℕ} {s : State} (k : Coded n s) where
   unfolding nextOf
   next-coded = with-coded Reg.Iar _ refl
 
-  entered-coded : (v : Vector) → Coded n (enteredOf s v)
+  entered-coded : (p : Profile) (v : Vector) → Coded n (enteredOf p s v)
   unfolding enteredOf with
-  entered-coded v = record { halt = k .halt }
+  entered-coded p v = record { halt = k .halt }
 
   noted-coded : (c : Cause) → Coded n (notedOf s c)
   unfolding notedOf accessNoted programNoted with
@@ -133,28 +135,32 @@ module _ {n : ℕ} {s : State} (k : Coded n s) where
   linked-coded lk = picked (Coded n) lk (with-coded Reg.Lr _ refl) k
 
 module _ {n : ℕ} {s : State} (k : Coded n s) where
-  interrupted-coded : 1 ≤ n → (c : Cause) → Coded n (interruptedOf s c)
+  interrupted-coded : 1 ≤ n → (p : Profile) (c : Cause) → Coded n (interruptedOf p s c)
   unfolding interruptedOf takenFor
-  interrupted-coded l c =
+  interrupted-coded l p c =
       let t = noted-coded k c in
-      picked (Coded n) (bitAt (notedOf s c .msr) 15) (entered-coded t (vectorFor c))
-      (picked (Coded n) (bitAt (notedOf s c .msr) 19) (entered-coded (promoted-coded t c) Vector.MachineCheck) (halted-coded _ Halt.MachineCheck l))
+      picked (Coded n) (bitAt (notedOf s c .msr) 15) (entered-coded t p (vectorFor c))
+      (picked (Coded n) (bitAt (notedOf s c .msr) 19) (entered-coded (promoted-coded t c) p Vector.MachineCheck) (halted-coded _ Halt.MachineCheck l))
 
   result-coded : (r v : ℕ) (rc : Bool) → Coded n (resultOf s r v rc)
   unfolding resultOf
   result-coded r v rc = next-coded (gpr-coded (recorded-coded k v rc) r v)
+
+  double-coded : (r v : ℕ) (rc : Bool) → Coded n (doubleResultOf s r v rc)
+  unfolding doubleResultOf recordedDoubleOf cr0Of
+  double-coded r v rc = next-coded (vdr-coded (picked (Coded n) rc (with-coded k Reg.Cr _ refl) k) r v)
 
   enabled-coded : (e : Bool) → Coded n (enabledOf s e)
   unfolding enabledOf
   enabled-coded e = next-coded (with-coded k Reg.Msr _ refl)
 
 -- the instructions
-module _ {s : State} (k : Coded 5 s) where
-  dbcr-coded : (v : ℕ) → Coded 5 (dbcrWritten s v)
+module _ (p : Profile) {s : State} (k : Coded 5 s) where
+  dbcr-coded : (v : ℕ) → Coded 5 (dbcrWritten p s v)
   unfolding dbcrWritten resetOf
   dbcr-coded v = picked (Coded 5) (eqb (bitsAt v 2 3) 0) (with-coded k Reg.Dbcr _ refl) (stopped-coded _ _)
 
-  spr-coded : (n v : ℕ) → Coded 5 (sprWritten s n v)
+  spr-coded : (n v : ℕ) → Coded 5 (sprWritten p s n v)
   unfolding sprWritten decWritten isrWritten tsrWritten written
   spr-coded n v =
       picked (Coded 5) (eqb n 22) (with-coded (with-coded k Reg.Tsr _ refl) Reg.Dec v refl)
@@ -168,11 +174,13 @@ module _ {s : State} (k : Coded 5 s) where
       result-coded (overflowed-coded (carried-coded k carries (sum .carry)) oe (sum .overflow)) rt (sum .value) rc
 
   arithmetic-coded : (i : Arithmetic) → Coded 5 (arithmeticOf s i)
-  unfolding arithmeticOf
+  unfolding arithmeticOf multipliedOf
   arithmetic-coded (Arithmetic.Immediate op rt ra si) = summed-coded rt _ _ false _
   arithmetic-coded (Arithmetic.Register op rt ra rb oe rc) = summed-coded rt _ _ oe rc
   arithmetic-coded (Arithmetic.One op rt ra oe rc) = summed-coded rt _ _ oe rc
   arithmetic-coded (Arithmetic.Multiply sign rt ra rb rc) = result-coded k rt _ rc
+  arithmetic-coded (Arithmetic.MultiplyImm rt ra si) = result-coded k rt _ false
+  arithmetic-coded (Arithmetic.MultiplyLow rt ra rb oe rc) = result-coded (overflowed-coded k oe _) rt _ rc
 
   logical-coded : (i : Logical) → Coded 5 (logicalOf s i)
   unfolding logicalOf
@@ -197,6 +205,7 @@ module _ {s : State} (k : Coded 5 s) where
   rotate-coded (Rotate.Shift ShiftOp.Srw rs ra rb rc) = result-coded k ra _ rc
   rotate-coded (Rotate.Shift ShiftOp.Sraw rs ra rb rc) = shifted-coded ra _ rc
   rotate-coded (Rotate.Srawi rs ra sh rc) = shifted-coded ra _ rc
+  rotate-coded (Rotate.Double op ds da sh mb rc) = double-coded k da _ rc
 
   branched-coded : (bo bi target : ℕ) (lk : Bool) → Coded 5 (branchedOf s bo bi target lk)
   unfolding branchedOf
@@ -208,13 +217,13 @@ module _ {s : State} (k : Coded 5 s) where
   branch-coded (Branch.Conditional bo bi bd aa lk) = branched-coded bo bi _ lk
   branch-coded (Branch.Register op bo bi bh lk) = branched-coded bo bi _ lk
 
-  trap-coded : (word to : ℕ) → Coded 5 (trapOf s word to)
+  trap-coded : (word to : ℕ) (tg : Bool) → Coded 5 (trapOf p s word to tg)
   unfolding trapOf
-  trap-coded word to =
-      picked (Coded 5) (eqb to 0) (next-coded k)
-      (picked (Coded 5) (bitAt (s .dbcr) 7) (stopped-coded s Halt.Trap) (interrupted-coded k (lit≤ tt) (Cause.Program word true)))
+  trap-coded word to tg =
+      picked (Coded 5) (eqb to 0 || is42x p && tg) (next-coded k)
+      (picked (Coded 5) (bitAt (s .dbcr) 7) (stopped-coded s Halt.Trap) (interrupted-coded k (lit≤ tt) p (Cause.Program word true)))
 
-  moved-coded : (op : MoveOp) (r : ℕ) → Coded 5 (movedOf s op r)
+  moved-coded : (op : MoveOp) (r : ℕ) → Coded 5 (movedOf p s op r)
   unfolding movedOf written
   moved-coded MoveOp.Mfcr r = result-coded k r _ false
   moved-coded MoveOp.Mtcr0 r = next-coded (with-coded k Reg.Cr _ refl)
@@ -222,7 +231,7 @@ module _ {s : State} (k : Coded 5 s) where
   moved-coded MoveOp.Mtmsr r = next-coded (with-coded k Reg.Msr _ refl)
   moved-coded MoveOp.Wrtee r = enabled-coded k _
 
-  system-coded : (i : System) → Coded 5 (systemOf s i)
+  system-coded : (i : System) → Coded 5 (systemOf p s i)
   unfolding systemOf returnedOf written
   system-coded (System.Spr SprOp.Mfspr r n) = result-coded k r _ false
   system-coded (System.Spr SprOp.Mtspr r n) = next-coded (spr-coded n _)
@@ -239,97 +248,97 @@ record Left (a : After) : Type 0 where
 untold : {s : State} {m : List ℕ} → Coded 5 s → Left (record { st = s; mem = m; past = false })
 untold k = record { st = k; past = λ h. never (sym h) }
 
-module _ (s : State) (z : s .halt ≡ 0) where
+module _ (p : Profile) (s : State) (z : s .halt ≡ 0) where
   five : Coded 5 s
   five = record { halt = rw z (lit≤ tt) }
 
-  outside : {m : List ℕ} (c : Cause) → Left (record { st = interruptedOf s c; mem = m; past = true })
+  outside : {m : List ℕ} (c : Cause) → Left (record { st = interruptedOf p s c; mem = m; past = true })
   outside c =
       let one : Coded 1 s = record { halt = rw z (lit≤ tt) } in
-      record { st = interrupted-coded five (lit≤ tt) c; past = λ h. interrupted-coded one (lit≤ tt) c }
+      record { st = interrupted-coded five (lit≤ tt) p c; past = λ h. interrupted-coded one (lit≤ tt) p c }
 
-  fault : {m : List ℕ} (c : Cause) → Left (record { st = interruptedOf s c; mem = m; past = false })
-  fault c = untold (interrupted-coded five (lit≤ tt) c)
+  fault : {m : List ℕ} (c : Cause) → Left (record { st = interruptedOf p s c; mem = m; past = false })
+  fault c = untold (interrupted-coded five (lit≤ tt) p c)
 
   load-left : (m : List ℕ) (x : Access) (v rt : ℕ) (update : Bool) (ra ea : ℕ)
-      → Left (record { st = loadedState s (loaded x v) rt update ra ea; mem = m; past = reachesPast x })
+      → Left (record { st = loadedState p s (loaded x v) rt update ra ea; mem = m; past = reachesPast x })
   load-left m Access.Served v rt update ra ea = untold (next-coded (gpr-coded (updated-coded five update ra ea) rt v))
   load-left m Access.Unaligned v rt update ra ea = fault (Cause.Alignment ea false)
   load-left m Access.Outside v rt update ra ea = outside (Cause.DataStorage ea false)
 
   load-double-left : (m : List ℕ) (x : Access) (v dt : ℕ) (update : Bool) (ra ea : ℕ)
-      → Left (record { st = loadedDoubleState s (loadedDouble x v) dt update ra ea; mem = m; past = reachesPast x })
+      → Left (record { st = loadedDoubleState p s (loadedDouble x v) dt update ra ea; mem = m; past = reachesPast x })
   load-double-left m Access.Served v dt update ra ea = untold (next-coded (vdr-coded (updated-coded five update ra ea) dt v))
   load-double-left m Access.Unaligned v dt update ra ea = fault (Cause.Alignment ea false)
   load-double-left m Access.Outside v dt update ra ea = outside (Cause.DataStorage ea false)
 
-  store-left : (m : List ℕ) (x : Access) (update : Bool) (ra ea : ℕ) → Left (record { st = storedState s x update ra ea; mem = m; past = reachesPast x })
+  store-left : (m : List ℕ) (x : Access) (update : Bool) (ra ea : ℕ) → Left (record { st = storedState p s x update ra ea; mem = m; past = reachesPast x })
   store-left m Access.Served update ra ea = untold (next-coded (updated-coded five update ra ea))
   store-left m Access.Unaligned update ra ea = fault (Cause.Alignment ea true)
   store-left m Access.Outside update ra ea = outside (Cause.DataStorage ea true)
 
-  clear-left : (m : List ℕ) (x : Access) (ea : ℕ) → Left (record { st = clearedState s x ea; mem = m; past = reachesPast x })
+  clear-left : (m : List ℕ) (x : Access) (ea : ℕ) → Left (record { st = clearedState p s x ea; mem = m; past = reachesPast x })
   clear-left m Access.Served ea = untold (next-coded five)
   clear-left m Access.Unaligned ea = fault (Cause.Alignment ea true)
   clear-left m Access.Outside ea = outside (Cause.DataStorage ea true)
 
-module _ (s : State) (z : s .halt ≡ 0) (m : List ℕ) where
-  load-store-left : (i : LoadStore) → Left (loadStoreOf s m i)
+module _ (p : Profile) (s : State) (z : s .halt ≡ 0) (m : List ℕ) where
+  load-store-left : (i : LoadStore) → Left (loadStoreOf p s m i)
   unfolding loadStoreOf loadAt storeAt loadDoubleAt storeDoubleAt loadOf loadDoubleOf
-  load-store-left (LoadStore.Load w update rt ra d) = load-left s z m (accessOf (length m) (offsetEa s ra d) (bytes w)) _ rt update ra _
-  load-store-left (LoadStore.LoadIndexed w rt ra rb) = load-left s z m (accessOf (length m) (indexedEa s ra rb) (bytes w)) _ rt false ra _
-  load-store-left (LoadStore.Store w update rs ra d) = store-left s z _ (accessOf (length m) (offsetEa s ra d) (bytes w)) update ra _
-  load-store-left (LoadStore.StoreIndexed w rs ra rb) = store-left s z _ (accessOf (length m) (indexedEa s ra rb) (bytes w)) false ra _
-  load-store-left (LoadStore.LoadDouble update dt ra d) = load-double-left s z m (accessOf (length m) (offsetEa s ra d) 8) _ dt update ra _
-  load-store-left (LoadStore.StoreDouble update ds ra d) = store-left s z _ (accessOf (length m) (offsetEa s ra d) 8) update ra _
+  load-store-left (LoadStore.Load w update rt ra d) = load-left p s z m (accessOf (length m) (offsetEa s ra d) (bytes w)) _ rt update ra _
+  load-store-left (LoadStore.LoadIndexed w rt ra rb) = load-left p s z m (accessOf (length m) (indexedEa s ra rb) (bytes w)) _ rt false ra _
+  load-store-left (LoadStore.Store w update rs ra d) = store-left p s z _ (accessOf (length m) (offsetEa s ra d) (bytes w)) update ra _
+  load-store-left (LoadStore.StoreIndexed w rs ra rb) = store-left p s z _ (accessOf (length m) (indexedEa s ra rb) (bytes w)) false ra _
+  load-store-left (LoadStore.LoadDouble update dt ra d) = load-double-left p s z m (accessOf (length m) (offsetEa s ra d) 8) _ dt update ra _
+  load-store-left (LoadStore.StoreDouble update ds ra d) = store-left p s z _ (accessOf (length m) (offsetEa s ra d) 8) update ra _
 
-  cache-left : (op : CacheOp) (ra rb : ℕ) → Left (cacheOf s m op ra rb)
+  cache-left : (op : CacheOp) (ra rb : ℕ) → Left (cacheOf p s m op ra rb)
   unfolding cacheOf clearAt
-  cache-left CacheOp.Dcbf ra rb = untold (next-coded (five s z))
-  cache-left CacheOp.Dcbi ra rb = untold (next-coded (five s z))
-  cache-left CacheOp.Dcbt ra rb = untold (next-coded (five s z))
-  cache-left CacheOp.Dcbz ra rb = clear-left s z _ (accessOf (length m) (blockAt (indexedEa s ra rb)) 32) _
+  cache-left CacheOp.Dcbf ra rb = untold (next-coded (five p s z))
+  cache-left CacheOp.Dcbi ra rb = untold (next-coded (five p s z))
+  cache-left CacheOp.Dcbt ra rb = untold (next-coded (five p s z))
+  cache-left CacheOp.Dcbz ra rb = clear-left p s z _ (accessOf (length m) (blockAt (indexedEa s ra rb)) 32) _
 
-  execute-left : (w : ℕ) (i : Instr) → Left (executeOf s m w i)
+  execute-left : (w : ℕ) (i : Instr) → Left (executeOf p s m w i)
   unfolding executeOf
-  execute-left w (Instr.Arithmetic i) = untold (arithmetic-coded (five s z) i)
-  execute-left w (Instr.Logical i) = untold (logical-coded (five s z) i)
-  execute-left w (Instr.Compare i) = untold (compare-coded (five s z) i)
-  execute-left w (Instr.Rotate i) = untold (rotate-coded (five s z) i)
+  execute-left w (Instr.Arithmetic i) = untold (arithmetic-coded p (five p s z) i)
+  execute-left w (Instr.Logical i) = untold (logical-coded p (five p s z) i)
+  execute-left w (Instr.Compare i) = untold (compare-coded p (five p s z) i)
+  execute-left w (Instr.Rotate i) = untold (rotate-coded p (five p s z) i)
   execute-left w (Instr.LoadStore i) = load-store-left i
-  execute-left w (Instr.Branch i) = untold (branch-coded (five s z) i)
-  execute-left w (Instr.Trap to ra rb tg) = untold (trap-coded (five s z) w to)
-  execute-left w (Instr.System i) = untold (system-coded (five s z) i)
+  execute-left w (Instr.Branch i) = untold (branch-coded p (five p s z) i)
+  execute-left w (Instr.Trap to ra rb tg) = untold (trap-coded p (five p s z) w to tg)
+  execute-left w (Instr.System i) = untold (system-coded p (five p s z) i)
   execute-left w (Instr.Cache op hint ra rb) = cache-left op ra rb
 
-  decoded-left : (w : ℕ) (d : Decoded) → Left (decodedOf s m w d)
+  decoded-left : (w : ℕ) (d : Decoded) → Left (decodedOf p s m w d)
   decoded-left w (Decoded.Insn i) = execute-left w i
-  decoded-left w Decoded.Illegal = fault s z (Cause.Program w false)
+  decoded-left w Decoded.Illegal = fault p s z (Cause.Program w false)
 
-  fetched-left : (l : Loaded) → Left (fetchedOf s m l)
-  fetched-left (Loaded.Value w) = decoded-left w (decodeOf w)
-  fetched-left Loaded.Unaligned = fault s z Cause.InstructionStorage
-  fetched-left Loaded.Outside = outside s z Cause.InstructionStorage
+  fetched-left : (l : Loaded) → Left (fetchedOf p s m l)
+  fetched-left (Loaded.Value w) = decoded-left w (decodeOn p w)
+  fetched-left Loaded.Unaligned = fault p s z Cause.InstructionStorage
+  fetched-left Loaded.Outside = outside p s z Cause.InstructionStorage
 
-  interruptible-left : (p : Pending) → Left (interruptibleOf s m p)
+  interruptible-left : (q : Pending) → Left (interruptibleOf p s m q)
   unfolding awakeOf runningOf
-  interruptible-left (Pending.Take v) = untold (entered-coded (five s z) v)
-  interruptible-left Pending.Nothing = picked Left (bitAt (s .msr) 13) (untold (five s z)) (fetched-left (fetchOf m (s .iar)))
+  interruptible-left (Pending.Take v) = untold (entered-coded (five p s z) p v)
+  interruptible-left Pending.Nothing = picked Left (bitAt (s .msr) 13) (untold (five p s z)) (fetched-left (fetchOf m (s .iar)))
 
 ticked-halt : (s : State) (e : ℕ) → s .halt ≡ 0 → tickedOf s e .halt ≡ 0
 unfolding tickedOf eventNoted with
 ticked-halt s e z = z
 
-step-left : (s : State) (m : List ℕ) (e : ℕ) → s .halt ≡ 0 → Left (stepOf s m e)
+step-left : (p : Profile) (s : State) (m : List ℕ) (e : ℕ) → s .halt ≡ 0 → Left (stepOf p s m e)
 unfolding stepOf countedOf actedOf
-step-left s m e z =
+step-left p s m e z =
     let t = tickedOf s e in
     rw (eq-eqb (s .halt) 0 z)
-    (picked Left (actsOf s e) (untold (stopped-coded _ _)) (interruptible-left t (ticked-halt s e z) m (highestOf t e)))
+    (picked Left (actsOf s e) (untold (stopped-coded _ _)) (interruptible-left p t (ticked-halt s e z) m (highestOf t e)))
 
-module _ (s : State) (m : List ℕ) (e : ℕ) (z : s .halt ≡ 0) where
-  pub step-halt : stepOf s m e .st .halt ≤ 5
-  step-halt = step-left s m e z .st .halt
+module _ (p : Profile) (s : State) (m : List ℕ) (e : ℕ) (z : s .halt ≡ 0) where
+  pub step-halt : stepOf p s m e .st .halt ≤ 5
+  step-halt = step-left p s m e z .st .halt
 
-  pub reach-halt : stepOf s m e .past ≡ true → stepOf s m e .st .halt ≤ 1
-  reach-halt h = step-left s m e z .past h .halt
+  pub reach-halt : stepOf p s m e .past ≡ true → stepOf p s m e .st .halt ≤ 1
+  reach-halt h = step-left p s m e z .past h .halt

@@ -18,9 +18,9 @@ use Rattle.machine.specs.declared.state.State.{State}
 use Rattle.machine.specs.declared.state.Reg.{Reg}
 use Rattle.machine.specs.declared.step.Pending.{Pending}
 
--- WIE, DIE, FIE or DS
+-- WIE, DIE, FIE or a bit of DS
 abbrev pub asks : ℕ → Bool
-asks tcr = bitAt tcr 4 || bitAt tcr 5 || bitAt tcr 8 || bitAt tcr 9
+asks tcr = bitAt tcr 4 || bitAt tcr 5 || bitAt tcr 8 || bitAt tcr 9 || bitAt tcr 10
 
 pub quiet-told : (tcr e : ℕ) → (eqb e 0 && not (asks tcr)) ≡ true → (e ≡ 0) × (asks tcr ≡ false)
 quiet-told tcr e h =
@@ -32,13 +32,15 @@ record Clear (tcr : ℕ) : Type 0 where
   die : bitAt tcr 5 ≡ false
   fie : bitAt tcr 8 ≡ false
   ds : bitAt tcr 9 ≡ false
+  ds1 : bitAt tcr 10 ≡ false
 
 clear : (tcr : ℕ) → asks tcr ≡ false → Clear tcr
 clear tcr h =
-    let a = or-false (bitAt tcr 4 || bitAt tcr 5 || bitAt tcr 8) (bitAt tcr 9) h in
+    let d = or-false (bitAt tcr 4 || bitAt tcr 5 || bitAt tcr 8 || bitAt tcr 9) (bitAt tcr 10) h in
+    let a = or-false (bitAt tcr 4 || bitAt tcr 5 || bitAt tcr 8) (bitAt tcr 9) (d .0) in
     let b = or-false (bitAt tcr 4 || bitAt tcr 5) (bitAt tcr 8) (a .0) in
     let c = or-false (bitAt tcr 4) (bitAt tcr 5) (b .0) in
-    record { wie = c .0; die = c .1; fie = b .1; ds = a .1 }
+    record { wie = c .0; die = c .1; fie = b .1; ds = a .1; ds1 = d .1 }
 
 -- no bit of an event byte 0 is set
 none : (k : ℕ) → eqb (0 / 2 ^ k % 2) 1 ≡ false
@@ -50,7 +52,7 @@ no-event-acts s = rw (none (31 - (29 - bitsAt (s .tcr) 0 1))) refl
 
 quiet-dec : (dec tcr : ℕ) → Clear tcr → decAfter dec tcr 0 ≡ (dec + (2 ^ 32 - 1)) % 2 ^ 32
 unfolding decAfter
-quiet-dec dec tcr h = rw (h .ds) refl
+quiet-dec dec tcr h = rw (h .ds1, h .ds) refl
 
 quiet-tsr : (tsr tcr : ℕ) (dis : Bool) → tsrAfter tsr tcr 0 dis ≡ bitOr tsr (fieldAt 4 4 (digit dis))
 unfolding tsrAfter

@@ -8,6 +8,7 @@ use Rattle.memory.specs.Access.{pick, sizedOf}
 use Rattle.word.proofs.Truth.{never, and-right}
 use Rattle.machine.specs.Refusal.{acceptsOf, unless, orElse}
 use Rattle.machine.specs.Register.{soundOf, refusalOf, startRefusal}
+use Rattle.insn.specs.declared.profile.Profile.{Profile}
 use Rattle.machine.specs.declared.state.State.{State}
 use Rattle.machine.specs.declared.refusal.Refusal.{Refusal}
 
@@ -39,11 +40,11 @@ unless-accepts true r e h = refl
 unless-accepts false r e h = sym e ∙ h
 
 -- a start that is accepted
-pub start-accepts : (s : State) (m : ℕ) → acceptsOf (startRefusal s m) ≡ true → (sizedOf m ≡ true) × (refusalOf s ≡ Refusal.None)
+pub start-accepts : (p : Profile) (s : State) (m : ℕ) → acceptsOf (startRefusal p s m) ≡ true → (sizedOf m ≡ true) × (refusalOf p s ≡ Refusal.None)
 unfolding startRefusal
-start-accepts s m h =
-    let a = or-accepts (unless (sizedOf m) Refusal.Memory) (refusalOf s) h in
-    (unless-accepts (sizedOf m) Refusal.Memory refl (a .0), accepts-none (refusalOf s) (a .1))
+start-accepts p s m h =
+    let a = or-accepts (unless (sizedOf m) Refusal.Memory) (refusalOf p s) h in
+    (unless-accepts (sizedOf m) Refusal.Memory refl (a .0), accepts-none (refusalOf p s) (a .1))
 
 halt-cases : (p q : Bool) → acceptsOf (pick p (pick q Refusal.None Refusal.Reserved) Refusal.Iar) ≡ true → q ≡ true
 halt-cases true true h = refl
@@ -51,8 +52,8 @@ halt-cases true false h = never (sym h)
 halt-cases false q h = never (sym h)
 
 -- and its halt code
-pub accepted-halt : (s : State) → refusalOf s ≡ Refusal.None → s .halt ≤ 5
+pub accepted-halt : (p : Profile) (s : State) → refusalOf p s ≡ Refusal.None → s .halt ≤ 5
 unfolding refusalOf soundOf
-accepted-halt s h =
-    let c : soundOf s ≡ true = halt-cases (eqb (s .iar % 4) 0) (soundOf s) (ap acceptsOf h) in
+accepted-halt p s h =
+    let c : soundOf p s ≡ true = halt-cases (eqb (s .iar % 4) 0) (soundOf p s) (ap acceptsOf h) in
     search (and-right, leb-true)

@@ -1,12 +1,13 @@
--- The arithmetic instructions of 9.4: each is a sum of two words and a carry, or a product of halfwords.
+-- The arithmetic instructions of 9.4: each is a sum of two words and a carry, or a product.
 use Prim.Native.Nat.{ℕ}
 use mathlib.Core.Bool.{Bool, true, false}
 use Rattle.word.specs.Bits.{fieldAt}
 use Rattle.word.specs.Logical.{inv}
 use Rattle.word.specs.Sign.{exts}
 use Rattle.word.specs.Sum.{sumOf}
-use Rattle.word.specs.Multiply.{mullhw, mullhwu}
+use Rattle.word.specs.Multiply.{mullhw, mullhwu, lowWord, mullw}
 use Rattle.word.specs.declared.sum.Sum.{Sum}
+use Rattle.word.specs.declared.multiply.Product.{Product}
 use Rattle.insn.specs.declared.instr.Arithmetic.{Arithmetic}
 use Rattle.insn.specs.declared.instr.ArithImmOp.{ArithImmOp}
 use Rattle.insn.specs.declared.instr.ArithOp.{ArithOp}
@@ -80,6 +81,10 @@ unfoldable pub summedOf : State → ℕ → Sum → Bool → Bool → Bool → S
 summedOf s rt sum carries oe rc =
     resultOf (overflowedOf (carriedOf s carries (sum .carry)) oe (sum .overflow)) rt (sum .value) rc
 
+-- mullw (9.4.61): the product in RT, with OV and CR0 as asked
+unfoldable pub multipliedOf : State → ℕ → Product → Bool → Bool → State
+multipliedOf s rt product oe rc = resultOf (overflowedOf s oe (product .overflow)) rt (product .value) rc
+
 unfoldable pub arithmeticOf : State → Arithmetic → State
 arithmeticOf s (Arithmetic.Immediate op rt ra si) =
     summedOf s rt (immSum op (baseOf s ra) (gprOf s ra) si) (immCarries op) false (immRecords op)
@@ -87,3 +92,5 @@ arithmeticOf s (Arithmetic.Register op rt ra rb oe rc) =
     summedOf s rt (regSum op (gprOf s ra) (gprOf s rb) (carryOf s)) (regCarries op) oe rc
 arithmeticOf s (Arithmetic.One op rt ra oe rc) = summedOf s rt (oneSum op (gprOf s ra) (carryOf s)) (oneCarries op) oe rc
 arithmeticOf s (Arithmetic.Multiply sign rt ra rb rc) = resultOf s rt (product sign (gprOf s ra) (gprOf s rb)) rc
+arithmeticOf s (Arithmetic.MultiplyImm rt ra si) = resultOf s rt (lowWord (gprOf s ra) (exts 16 si)) false  -- mulli 9.4.60
+arithmeticOf s (Arithmetic.MultiplyLow rt ra rb oe rc) = multipliedOf s rt (mullw (gprOf s ra) (gprOf s rb)) oe rc

@@ -5,6 +5,8 @@ use lib.Bits.{bitAnd}
 use Rattle.word.specs.Bits.{digit, bitAt}
 use Rattle.word.specs.Rotate.{putAt}
 use Rattle.memory.specs.Access.{pick}
+use Rattle.insn.specs.Profile.{column}
+use Rattle.insn.specs.declared.profile.Profile.{Profile}
 use Rattle.machine.specs.State.{with}
 use Rattle.machine.specs.declared.state.State.{State}
 use Rattle.machine.specs.declared.state.Reg.{Reg}
@@ -13,20 +15,20 @@ use Rattle.machine.specs.declared.interrupt.Cause.{Cause}
 use Rattle.machine.specs.declared.interrupt.Halt.{Halt}
 
 -- Table 1.9
-abbrev pub offsetOf : Vector → ℕ
-offsetOf Vector.MachineCheck = 0x000
-offsetOf Vector.DataStorage = 0x060
-offsetOf Vector.InstructionStorage = 0x080
-offsetOf Vector.External = 0x0A0
-offsetOf Vector.Alignment = 0x0C0
-offsetOf Vector.Program = 0x0E0
-offsetOf Vector.Decrementer = 0x100
-offsetOf Vector.FixedInterval = 0x120
-offsetOf Vector.Watchdog = 0x140
+abbrev pub offsetOf : Profile → Vector → ℕ
+offsetOf p Vector.MachineCheck = column p 0x000 0x020  -- 4.5.1
+offsetOf p Vector.DataStorage = 0x060
+offsetOf p Vector.InstructionStorage = 0x080
+offsetOf p Vector.External = 0x0A0
+offsetOf p Vector.Alignment = 0x0C0
+offsetOf p Vector.Program = 0x0E0
+offsetOf p Vector.Decrementer = 0x100
+offsetOf p Vector.FixedInterval = 0x120
+offsetOf p Vector.Watchdog = 0x140
 
 -- (IVPR)_0:22 ‖ offset (4.2)
-abbrev pub vectorAt : ℕ → Vector → ℕ
-vectorAt ivpr v = ivpr / 2 ^ 9 * 2 ^ 9 + offsetOf v
+abbrev pub vectorAt : Profile → ℕ → Vector → ℕ
+vectorAt p ivpr v = ivpr / 2 ^ 9 * 2 ^ 9 + offsetOf p v
 
 -- the bits of MSR that an interrupt leaves: SIBRC (9:11), and ME (19) but for a machine check (Tables 1.14 to 1.24)
 abbrev pub keptOf : Vector → ℕ
@@ -41,9 +43,9 @@ keptOf Vector.FixedInterval = 0x0070_1000
 keptOf Vector.Watchdog = 0x0070_1000
 
 -- SRR0 and SRR1 take IAR and MSR, and IAR goes to the vector
-unfoldable pub enteredOf : State → Vector → State
-enteredOf s v =
-    with (with (with (with s Reg.Srr0 (s .iar)) Reg.Srr1 (s .msr)) Reg.Msr (bitAnd (s .msr) (keptOf v))) Reg.Iar (vectorAt (s .ivpr) v)
+unfoldable pub enteredOf : Profile → State → Vector → State
+enteredOf p s v =
+    with (with (with (with s Reg.Srr0 (s .iar)) Reg.Srr1 (s .msr)) Reg.Msr (bitAnd (s .msr) (keptOf v))) Reg.Iar (vectorAt p (s .ivpr) v)
 
 abbrev pub vectorFor : Cause → Vector
 vectorFor (Cause.DataStorage address store) = Vector.DataStorage
@@ -89,11 +91,11 @@ unfoldable pub haltedOf : State → Halt → State
 haltedOf s h = with s Reg.Halt (codeOf h)
 
 -- taken if MSR[UIE] (15), else promoted to a machine check if MSR[ME] (19), else the core halts at the interrupt's own vector
-unfoldable pub takenFor : State → Cause → State
-takenFor s c =
-    pick (bitAt (s .msr) 15) (enteredOf s (vectorFor c))
-    (pick (bitAt (s .msr) 19) (enteredOf (promotedOf s c) Vector.MachineCheck) (haltedOf (enteredOf s (vectorFor c)) Halt.MachineCheck))
+unfoldable pub takenFor : Profile → State → Cause → State
+takenFor p s c =
+    pick (bitAt (s .msr) 15) (enteredOf p s (vectorFor c))
+    (pick (bitAt (s .msr) 19) (enteredOf p (promotedOf s c) Vector.MachineCheck) (haltedOf (enteredOf p s (vectorFor c)) Halt.MachineCheck))
 
 -- a synchronous interrupt
-unfoldable pub interruptedOf : State → Cause → State
-interruptedOf s c = takenFor (notedOf s c) c
+unfoldable pub interruptedOf : Profile → State → Cause → State
+interruptedOf p s c = takenFor p (notedOf s c) c

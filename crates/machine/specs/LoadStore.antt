@@ -13,6 +13,7 @@ use Rattle.memory.specs.declared.access.Access.{Access}
 use Rattle.memory.specs.declared.load.Loaded.{Loaded}
 use Rattle.memory.specs.declared.load.LoadedDouble.{LoadedDouble}
 use Rattle.insn.specs.declared.instr.LoadStore.{LoadStore}
+use Rattle.insn.specs.declared.profile.Profile.{Profile}
 use Rattle.machine.specs.State.{gprOf, baseOf, vdrOf, withGpr, withVdr}
 use Rattle.machine.specs.Interrupt.{interruptedOf}
 use Rattle.machine.specs.Result.{nextOf}
@@ -33,60 +34,60 @@ unfoldable pub updatedOf : State → Bool → ℕ → ℕ → State
 updatedOf s update ra ea = pick update (withGpr s ra ea) s
 
 -- the value in RT, or the interrupt
-abbrev pub loadedState : State → Loaded → ℕ → Bool → ℕ → ℕ → State
-loadedState s (Loaded.Value v) rt update ra ea = nextOf (withGpr (updatedOf s update ra ea) rt v)
-loadedState s Loaded.Unaligned rt update ra ea = interruptedOf s (Cause.Alignment ea false)
-loadedState s Loaded.Outside rt update ra ea = interruptedOf s (Cause.DataStorage ea false)
+abbrev pub loadedState : Profile → State → Loaded → ℕ → Bool → ℕ → ℕ → State
+loadedState p s (Loaded.Value v) rt update ra ea = nextOf (withGpr (updatedOf s update ra ea) rt v)
+loadedState p s Loaded.Unaligned rt update ra ea = interruptedOf p s (Cause.Alignment ea false)
+loadedState p s Loaded.Outside rt update ra ea = interruptedOf p s (Cause.DataStorage ea false)
 
-unfoldable pub loadAt : State → List ℕ → Width → ℕ → ℕ → Bool → ℕ → After
-loadAt s m w rt ea update ra =
+unfoldable pub loadAt : Profile → State → List ℕ → Width → ℕ → ℕ → Bool → ℕ → After
+loadAt p s m w rt ea update ra =
     record {
-      st = loadedState s (loadOf m ea w) rt update ra ea;
+      st = loadedState p s (loadOf m ea w) rt update ra ea;
       mem = m;
       past = reachesPast (accessOf (length m) ea (bytes w));
     }
 
-abbrev pub storedState : State → Access → Bool → ℕ → ℕ → State
-storedState s Access.Served update ra ea = nextOf (updatedOf s update ra ea)
-storedState s Access.Unaligned update ra ea = interruptedOf s (Cause.Alignment ea true)
-storedState s Access.Outside update ra ea = interruptedOf s (Cause.DataStorage ea true)
+abbrev pub storedState : Profile → State → Access → Bool → ℕ → ℕ → State
+storedState p s Access.Served update ra ea = nextOf (updatedOf s update ra ea)
+storedState p s Access.Unaligned update ra ea = interruptedOf p s (Cause.Alignment ea true)
+storedState p s Access.Outside update ra ea = interruptedOf p s (Cause.DataStorage ea true)
 
 -- the last bytes of (RS)
-unfoldable pub storeAt : State → List ℕ → Width → ℕ → ℕ → Bool → ℕ → After
-storeAt s m w rs ea update ra =
+unfoldable pub storeAt : Profile → State → List ℕ → Width → ℕ → ℕ → Bool → ℕ → After
+storeAt p s m w rs ea update ra =
     record {
-      st = storedState s (accessOf (length m) ea (bytes w)) update ra ea;
+      st = storedState p s (accessOf (length m) ea (bytes w)) update ra ea;
       mem = storedOf m ea w (gprOf s rs);
       past = reachesPast (accessOf (length m) ea (bytes w));
     }
 
 -- lvd and lvdu (9.4.46, 9.4.47): the doubleword in DT, or the interrupt; EA is computed first, so RA of lvd may be one of the two
-abbrev pub loadedDoubleState : State → LoadedDouble → ℕ → Bool → ℕ → ℕ → State
-loadedDoubleState s (LoadedDouble.Value v) dt update ra ea = nextOf (withVdr (updatedOf s update ra ea) dt v)
-loadedDoubleState s LoadedDouble.Unaligned dt update ra ea = interruptedOf s (Cause.Alignment ea false)
-loadedDoubleState s LoadedDouble.Outside dt update ra ea = interruptedOf s (Cause.DataStorage ea false)
+abbrev pub loadedDoubleState : Profile → State → LoadedDouble → ℕ → Bool → ℕ → ℕ → State
+loadedDoubleState p s (LoadedDouble.Value v) dt update ra ea = nextOf (withVdr (updatedOf s update ra ea) dt v)
+loadedDoubleState p s LoadedDouble.Unaligned dt update ra ea = interruptedOf p s (Cause.Alignment ea false)
+loadedDoubleState p s LoadedDouble.Outside dt update ra ea = interruptedOf p s (Cause.DataStorage ea false)
 
-unfoldable pub loadDoubleAt : State → List ℕ → ℕ → ℕ → Bool → ℕ → After
-loadDoubleAt s m dt ea update ra =
+unfoldable pub loadDoubleAt : Profile → State → List ℕ → ℕ → ℕ → Bool → ℕ → After
+loadDoubleAt p s m dt ea update ra =
     record {
-      st = loadedDoubleState s (loadDoubleOf m ea) dt update ra ea;
+      st = loadedDoubleState p s (loadDoubleOf m ea) dt update ra ea;
       mem = m;
       past = reachesPast (accessOf (length m) ea 8);
     }
 
 -- stvd and stvdu (9.4.90, 9.4.91): (DS), with RA as it was where that is one of the two
-unfoldable pub storeDoubleAt : State → List ℕ → ℕ → ℕ → Bool → ℕ → After
-storeDoubleAt s m ds ea update ra =
+unfoldable pub storeDoubleAt : Profile → State → List ℕ → ℕ → ℕ → Bool → ℕ → After
+storeDoubleAt p s m ds ea update ra =
     record {
-      st = storedState s (accessOf (length m) ea 8) update ra ea;
+      st = storedState p s (accessOf (length m) ea 8) update ra ea;
       mem = storedDoubleOf m ea (vdrOf s ds);
       past = reachesPast (accessOf (length m) ea 8);
     }
 
-unfoldable pub loadStoreOf : State → List ℕ → LoadStore → After
-loadStoreOf s m (LoadStore.Load w update rt ra d) = loadAt s m w rt (offsetEa s ra d) update ra
-loadStoreOf s m (LoadStore.LoadIndexed w rt ra rb) = loadAt s m w rt (indexedEa s ra rb) false ra
-loadStoreOf s m (LoadStore.Store w update rs ra d) = storeAt s m w rs (offsetEa s ra d) update ra
-loadStoreOf s m (LoadStore.StoreIndexed w rs ra rb) = storeAt s m w rs (indexedEa s ra rb) false ra
-loadStoreOf s m (LoadStore.LoadDouble update dt ra d) = loadDoubleAt s m dt (offsetEa s ra d) update ra
-loadStoreOf s m (LoadStore.StoreDouble update ds ra d) = storeDoubleAt s m ds (offsetEa s ra d) update ra
+unfoldable pub loadStoreOf : Profile → State → List ℕ → LoadStore → After
+loadStoreOf p s m (LoadStore.Load w update rt ra d) = loadAt p s m w rt (offsetEa s ra d) update ra
+loadStoreOf p s m (LoadStore.LoadIndexed w rt ra rb) = loadAt p s m w rt (indexedEa s ra rb) false ra
+loadStoreOf p s m (LoadStore.Store w update rs ra d) = storeAt p s m w rs (offsetEa s ra d) update ra
+loadStoreOf p s m (LoadStore.StoreIndexed w rs ra rb) = storeAt p s m w rs (indexedEa s ra rb) false ra
+loadStoreOf p s m (LoadStore.LoadDouble update dt ra d) = loadDoubleAt p s m dt (offsetEa s ra d) update ra
+loadStoreOf p s m (LoadStore.StoreDouble update ds ra d) = storeDoubleAt p s m ds (offsetEa s ra d) update ra

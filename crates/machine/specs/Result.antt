@@ -4,8 +4,9 @@ use mathlib.Core.Bool.{Bool, _||_}
 use Rattle.word.specs.Bits.{digit, bitAt, fieldAt}
 use Rattle.word.specs.Rotate.{putAt}
 use Rattle.word.specs.Compare.{recorded}
+use Rattle.word.specs.Double.{recorded64}
 use Rattle.memory.specs.Access.{pick}
-use Rattle.machine.specs.State.{with, withGpr}
+use Rattle.machine.specs.State.{with, withGpr, withVdr}
 use Rattle.machine.specs.declared.state.State.{State}
 use Rattle.machine.specs.declared.state.Reg.{Reg}
 
@@ -43,3 +44,10 @@ overflowedOf s oe ov = pick oe (with s Reg.Xer (putAt (putAt (s .xer) 1 1 (digit
 -- the result in its register, CR0 with Rc, and on to the next instruction
 unfoldable pub resultOf : State → ℕ → ℕ → Bool → State
 resultOf s r v rc = nextOf (withGpr (recordedOf s v rc) r v)
+
+-- a result of 64 bits in its pair, with CR0 of the 64 bits
+unfoldable pub recordedDoubleOf : State → ℕ → Bool → State
+recordedDoubleOf s v rc = pick rc (cr0Of s (recorded64 v (soOf s))) s
+
+unfoldable pub doubleResultOf : State → ℕ → ℕ → Bool → State
+doubleResultOf s r v rc = nextOf (withVdr (recordedDoubleOf s v rc) r v)

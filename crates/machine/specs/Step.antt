@@ -7,7 +7,8 @@ use Rattle.word.specs.Bits.{bitAt}
 use Rattle.memory.specs.Access.{pick}
 use Rattle.memory.specs.Load.{fetchOf}
 use Rattle.memory.specs.declared.load.Loaded.{Loaded}
-use Rattle.insn.specs.Read.{decodeOf}
+use Rattle.insn.specs.Read.{decodeOn}
+use Rattle.insn.specs.declared.profile.Profile.{Profile}
 use Rattle.insn.specs.declared.instr.Instr.{Instr}
 use Rattle.insn.specs.declared.instr.Decoded.{Decoded}
 use Rattle.machine.specs.After.{After, plain}
@@ -27,33 +28,33 @@ use Rattle.machine.specs.declared.interrupt.Vector.{Vector}
 use Rattle.machine.specs.declared.step.Pending.{Pending}
 
 -- an instruction, and the word that it was read from
-unfoldable pub executeOf : State → List ℕ → ℕ → Instr → After
-executeOf s m w (Instr.Arithmetic i) = plain (arithmeticOf s i) m
-executeOf s m w (Instr.Logical i) = plain (logicalOf s i) m
-executeOf s m w (Instr.Compare i) = plain (compareOf s i) m
-executeOf s m w (Instr.Rotate i) = plain (rotateOf s i) m
-executeOf s m w (Instr.LoadStore i) = loadStoreOf s m i
-executeOf s m w (Instr.Branch i) = plain (branchOf s i) m
-executeOf s m w (Instr.Trap to ra rb tg) = plain (trapOf s w to) m
-executeOf s m w (Instr.System i) = plain (systemOf s i) m
-executeOf s m w (Instr.Cache op hint ra rb) = cacheOf s m op ra rb
+unfoldable pub executeOf : Profile → State → List ℕ → ℕ → Instr → After
+executeOf p s m w (Instr.Arithmetic i) = plain (arithmeticOf s i) m
+executeOf p s m w (Instr.Logical i) = plain (logicalOf s i) m
+executeOf p s m w (Instr.Compare i) = plain (compareOf s i) m
+executeOf p s m w (Instr.Rotate i) = plain (rotateOf s i) m
+executeOf p s m w (Instr.LoadStore i) = loadStoreOf p s m i
+executeOf p s m w (Instr.Branch i) = plain (branchOf s i) m
+executeOf p s m w (Instr.Trap to ra rb tg) = plain (trapOf p s w to tg) m
+executeOf p s m w (Instr.System i) = plain (systemOf p s i) m
+executeOf p s m w (Instr.Cache op hint ra rb) = cacheOf p s m op ra rb
 
-abbrev pub decodedOf : State → List ℕ → ℕ → Decoded → After
-decodedOf s m w (Decoded.Insn i) = executeOf s m w i
-decodedOf s m w Decoded.Illegal = plain (interruptedOf s (Cause.Program w false)) m
+abbrev pub decodedOf : Profile → State → List ℕ → ℕ → Decoded → After
+decodedOf p s m w (Decoded.Insn i) = executeOf p s m w i
+decodedOf p s m w Decoded.Illegal = plain (interruptedOf p s (Cause.Program w false)) m
 
-abbrev pub fetchedOf : State → List ℕ → Loaded → After
-fetchedOf s m (Loaded.Value w) = decodedOf s m w (decodeOf w)
-fetchedOf s m Loaded.Unaligned = plain (interruptedOf s Cause.InstructionStorage) m
-fetchedOf s m Loaded.Outside = record { st = interruptedOf s Cause.InstructionStorage; mem = m; past = true }
+abbrev pub fetchedOf : Profile → State → List ℕ → Loaded → After
+fetchedOf p s m (Loaded.Value w) = decodedOf p s m w (decodeOn p w)
+fetchedOf p s m Loaded.Unaligned = plain (interruptedOf p s Cause.InstructionStorage) m
+fetchedOf p s m Loaded.Outside = record { st = interruptedOf p s Cause.InstructionStorage; mem = m; past = true }
 
 -- line 6: fetch at IAR, decode, execute
-unfoldable pub runningOf : State → List ℕ → After
-runningOf s m = fetchedOf s m (fetchOf m (s .iar))
+unfoldable pub runningOf : Profile → State → List ℕ → After
+runningOf p s m = fetchedOf p s m (fetchOf m (s .iar))
 
 -- line 5: MSR[WE] (13) set, the step ends
-unfoldable pub awakeOf : State → List ℕ → After
-awakeOf s m = pick (bitAt (s .msr) 13) (plain s m) (runningOf s m)
+unfoldable pub awakeOf : Profile → State → List ℕ → After
+awakeOf p s m = pick (bitAt (s .msr) 13) (plain s m) (runningOf p s m)
 
 -- with MSR[EE] (16), the highest asynchronous interrupt that is enabled: WIE (4) and WIS (1), the external level, FIE (8) and FIS (5), DIE (5) and DIS (4) (Table 1.10)
 unfoldable pub highestOf : State → ℕ → Pending
@@ -66,16 +67,16 @@ highestOf s e =
     Pending.Nothing
 
 -- line 4: it is taken, and the step ends
-abbrev pub interruptibleOf : State → List ℕ → Pending → After
-interruptibleOf s m (Pending.Take v) = plain (enteredOf s v) m
-interruptibleOf s m Pending.Nothing = awakeOf s m
+abbrev pub interruptibleOf : Profile → State → List ℕ → Pending → After
+interruptibleOf p s m (Pending.Take v) = plain (enteredOf p s v) m
+interruptibleOf p s m Pending.Nothing = awakeOf p s m
 
 -- line 2, then line 3: a watchdog action ends the step
-unfoldable pub countedOf : State → List ℕ → ℕ → After
-countedOf s m e =
+unfoldable pub countedOf : Profile → State → List ℕ → ℕ → After
+countedOf p s m e =
     let t = tickedOf s e in
-    pick (actsOf s e) (plain (actedOf t) m) (interruptibleOf t m (highestOf t e))
+    pick (actsOf s e) (plain (actedOf t) m) (interruptibleOf p t m (highestOf t e))
 
 -- line 1: halted, nothing happens
-unfoldable pub stepOf : State → List ℕ → ℕ → After
-stepOf s m e = pick (eqb (s .halt) 0) (countedOf s m e) (plain s m)
+unfoldable pub stepOf : Profile → State → List ℕ → ℕ → After
+stepOf p s m e = pick (eqb (s .halt) 0) (countedOf p s m e) (plain s m)

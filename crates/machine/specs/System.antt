@@ -1,6 +1,6 @@
 -- Traps, and the instructions that move special registers (7.5.1, 8.10, 9.4.52 to 9.4.57, 9.4.69, 9.4.102 to 9.4.105).
 use Prim.Native.Nat.{ℕ, _*_, _/_}
-use mathlib.Core.Bool.{Bool, true, false}
+use mathlib.Core.Bool.{Bool, true, false, _&&_, _||_}
 use lib.Bits.{bitAnd, bitOr}
 use lib.Dec.{eqb}
 use Rattle.word.specs.Bits.{digit, bitAt, bitsAt, fieldAt}
@@ -10,6 +10,8 @@ use Rattle.memory.specs.Access.{pick}
 use Rattle.insn.specs.declared.instr.System.{System}
 use Rattle.insn.specs.declared.instr.SprOp.{SprOp}
 use Rattle.insn.specs.declared.instr.MoveOp.{MoveOp}
+use Rattle.insn.specs.Profile.{is42x}
+use Rattle.insn.specs.declared.profile.Profile.{Profile}
 use Rattle.machine.specs.State.{gprOf, with, contentsOf}
 use Rattle.machine.specs.Register.{definedOf}
 use Rattle.machine.specs.Interrupt.{interruptedOf, haltedOf}
@@ -20,11 +22,11 @@ use Rattle.machine.specs.declared.state.Reg.{Reg}
 use Rattle.machine.specs.declared.interrupt.Cause.{Cause}
 use Rattle.machine.specs.declared.interrupt.Halt.{Halt}
 
--- tw (Table 1.96): nothing with TO 0; else a halt with DBCR[TRAP] (7), or a program interrupt
-unfoldable pub trapOf : State → ℕ → ℕ → State
-trapOf s word to =
-    pick (eqb to 0) (nextOf s)
-    (pick (bitAt (s .dbcr) 7) (haltedOf s Halt.Trap) (interruptedOf s (Cause.Program word true)))
+-- tw (Table 1.96): nothing with TO 0, nor on the 42X with TG; else a halt with DBCR[TRAP] (7), or a program interrupt
+unfoldable pub trapOf : Profile → State → ℕ → ℕ → Bool → State
+trapOf p s word to tg =
+    pick (eqb to 0 || is42x p && tg) (nextOf s)
+    (pick (bitAt (s .dbcr) 7) (haltedOf s Halt.Trap) (interruptedOf p s (Cause.Program word true)))
 
 -- Table 1.34; TCR's number is 340
 unfoldable pub sprOf : ℕ → Reg
@@ -54,55 +56,55 @@ unfoldable pub resetOf : State → ℕ → State
 resetOf s rst = pick (eqb rst 0) s (haltedOf s (pick (eqb rst 3) Halt.Debug Halt.Reset))
 
 -- the other fields are stored as written, RST as 00
-unfoldable pub dbcrWritten : State → ℕ → State
-dbcrWritten s v = resetOf (with s Reg.Dbcr (putAt (bitAnd v (definedOf Reg.Dbcr)) 2 3 0)) (bitsAt v 2 3)
+unfoldable pub dbcrWritten : Profile → State → ℕ → State
+dbcrWritten p s v = resetOf (with s Reg.Dbcr (putAt (bitAnd v (definedOf p Reg.Dbcr)) 2 3 0)) (bitsAt v 2 3)
 
 -- TSR[DIS] (4) is set where DEC's bit 0 rises (5.1)
 unfoldable pub decWritten : State → ℕ → State
 decWritten s v = with (with s Reg.Tsr (bitOr (s .tsr) (fieldAt 4 4 (digit (rises (s .dec) v))))) Reg.Dec v
 
 -- ISR[EP] (21) is read-only (8.10.9)
-unfoldable pub isrWritten : State → ℕ → State
-isrWritten s v = with s Reg.Isr (putAt (bitAnd v (definedOf Reg.Isr)) 21 21 (digit (bitAt (s .isr) 21)))
+unfoldable pub isrWritten : Profile → State → ℕ → State
+isrWritten p s v = with s Reg.Isr (putAt (bitAnd v (definedOf p Reg.Isr)) 21 21 (digit (bitAt (s .isr) 21)))
 
 -- a one clears the bit (8.10.19)
 unfoldable pub tsrWritten : State → ℕ → State
 tsrWritten s v = with s Reg.Tsr (bitAnd (s .tsr) (inv v))
 
 -- reserved bits are dropped
-unfoldable pub written : State → Reg → ℕ → State
-written s r v = with s r (bitAnd v (definedOf r))
+unfoldable pub written : Profile → State → Reg → ℕ → State
+written p s r v = with s r (bitAnd v (definedOf p r))
 
-unfoldable pub sprWritten : State → ℕ → ℕ → State
-sprWritten s n v =
+unfoldable pub sprWritten : Profile → State → ℕ → ℕ → State
+sprWritten p s n v =
     pick (eqb n 22) (decWritten s v)
-    (pick (eqb n 62) (isrWritten s v)
-    (pick (eqb n 308) (dbcrWritten s v)
-    (pick (eqb n 336) (tsrWritten s v) (written s (sprOf n) v))))
+    (pick (eqb n 62) (isrWritten p s v)
+    (pick (eqb n 308) (dbcrWritten p s v)
+    (pick (eqb n 336) (tsrWritten s v) (written p s (sprOf n) v))))
 
-abbrev pub sprMoved : State → SprOp → ℕ → ℕ → State
-sprMoved s SprOp.Mfspr rt n = resultOf s rt (readOf s n) false
-sprMoved s SprOp.Mtspr rs n = nextOf (sprWritten s n (gprOf s rs))
+abbrev pub sprMoved : Profile → State → SprOp → ℕ → ℕ → State
+sprMoved p s SprOp.Mfspr rt n = resultOf s rt (readOf s n) false
+sprMoved p s SprOp.Mtspr rs n = nextOf (sprWritten p s n (gprOf s rs))
 
 -- MSR[EE] (16) alone
 unfoldable pub enabledOf : State → Bool → State
 enabledOf s e = nextOf (with s Reg.Msr (putAt (s .msr) 16 16 (digit e)))
 
 -- mfcr, mtcr0, mfmsr, mtmsr and wrtee (9.4.52, 9.4.55, 9.4.53, 9.4.56, 9.4.104)
-unfoldable pub movedOf : State → MoveOp → ℕ → State
-movedOf s MoveOp.Mfcr rt = resultOf s rt (bitAnd (s .cr) (definedOf Reg.Cr)) false
-movedOf s MoveOp.Mtcr0 rs = nextOf (written s Reg.Cr (gprOf s rs))
-movedOf s MoveOp.Mfmsr rt = resultOf s rt (s .msr) false
-movedOf s MoveOp.Mtmsr rs = nextOf (written s Reg.Msr (gprOf s rs))
-movedOf s MoveOp.Wrtee rs = enabledOf s (bitAt (gprOf s rs) 16)
+unfoldable pub movedOf : Profile → State → MoveOp → ℕ → State
+movedOf p s MoveOp.Mfcr rt = resultOf s rt (bitAnd (s .cr) (definedOf p Reg.Cr)) false
+movedOf p s MoveOp.Mtcr0 rs = nextOf (written p s Reg.Cr (gprOf s rs))
+movedOf p s MoveOp.Mfmsr rt = resultOf s rt (s .msr) false
+movedOf p s MoveOp.Mtmsr rs = nextOf (written p s Reg.Msr (gprOf s rs))
+movedOf p s MoveOp.Wrtee rs = enabledOf s (bitAt (gprOf s rs) 16)
 
 -- rfi (9.4.69): MSR from SRR1, IAR from (SRR0)_0:29 ‖ 00
-unfoldable pub returnedOf : State → State
-returnedOf s = with (written s Reg.Msr (s .srr1)) Reg.Iar (s .srr0 / 4 * 4)
+unfoldable pub returnedOf : Profile → State → State
+returnedOf p s = with (written p s Reg.Msr (s .srr1)) Reg.Iar (s .srr0 / 4 * 4)
 
-unfoldable pub systemOf : State → System → State
-systemOf s (System.Spr op r n) = sprMoved s op r n
-systemOf s (System.Move op r) = movedOf s op r
-systemOf s (System.Wrteei e) = enabledOf s e
-systemOf s System.Rfi = returnedOf s
-systemOf s System.Sync = nextOf s
+unfoldable pub systemOf : Profile → State → System → State
+systemOf p s (System.Spr op r n) = sprMoved p s op r n
+systemOf p s (System.Move op r) = movedOf p s op r
+systemOf p s (System.Wrteei e) = enabledOf s e
+systemOf p s System.Rfi = returnedOf p s
+systemOf p s System.Sync = nextOf s

@@ -22,9 +22,14 @@ decrementerIn e = bitAt e 30
 abbrev pub timerIn : ℕ → ℕ → Bool
 timerIn e k = bitAt e (29 - k)
 
--- 5.1: DEC counts in every step, or with TCR[DS] (9) where the decrementer input is active; under 0 comes FFFFFFFF
+-- 5.1: TCR[DS] (9:10) has DEC count in every step, or where timer 1, the decrementer input or timer 3 is active. Bit 10 is reserved on the
+-- 42, so there DS is 00 or 10
+abbrev pub countsIn : ℕ → ℕ → Bool
+countsIn tcr e = cond (bitAt tcr 10) (timerIn e (cond (bitAt tcr 9) 3 1)) (not (bitAt tcr 9) || decrementerIn e)
+
+-- under 0 comes FFFFFFFF
 unfoldable pub decAfter : ℕ → ℕ → ℕ → ℕ
-decAfter dec tcr e = cond (not (bitAt tcr 9) || decrementerIn e) ((dec + (2 ^ 32 - 1)) % 2 ^ 32) dec
+decAfter dec tcr e = cond (countsIn tcr e) ((dec + (2 ^ 32 - 1)) % 2 ^ 32) dec
 
 -- DEC's bit 0 goes from 0 to 1
 abbrev pub rises : ℕ → ℕ → Bool

@@ -3,9 +3,11 @@ ghost use mathlib.Core.Path.{_≡_};
 ghost use mathlib.Core.Bool.{true, false};
 ghost use Rattle.word.specs.Logical.{inv};
 ghost use Rattle.word.specs.Sum.{sumOf};
+ghost use Rattle.word.specs.Sign.{exts};
+ghost use Rattle.word.specs.Multiply.{lowWord, mullw};
 ghost use Rattle.machine.specs.State.{gprOf, baseOf};
 ghost use Rattle.machine.specs.Result.{carryOf, resultOf};
-ghost use Rattle.machine.specs.Arithmetic.{immSum, immCarries, immRecords, regSum, regCarries, oneSum, oneCarries, product, summedOf, arithmeticOf};
+ghost use Rattle.machine.specs.Arithmetic.{immSum, immCarries, immRecords, regSum, regCarries, oneSum, oneCarries, product, summedOf, multipliedOf, arithmeticOf};
 use crate::state::State;
 use insn::instr::ArithImmOp;
 use insn::instr::ArithOneOp;
@@ -14,8 +16,11 @@ use insn::instr::Arithmetic;
 use insn::instr::Sign;
 use word::bits::Bit;
 use word::bits::field_at;
+use word::multiply::Product;
 use word::multiply::low_signed;
 use word::multiply::low_unsigned;
+use word::multiply::low_word;
+use word::multiply::multiply;
 use word::sign::extend_half;
 use word::sum::Sum;
 use word::sum::add;
@@ -132,6 +137,28 @@ impl State {
         self.finish(rt, v, rc)
     }
 
+    fn multiply_imm(self, rt: u8, ra: u8, si: u16) -> State
+        ensures { λ r. ⌜ r ≡ resultOf self rt (lowWord (gprOf self ra) (exts 16 si)) false ⌝ }
+    {
+        let v = low_word(self.reg(ra), extend_half(si));
+        self.finish(rt, v, false)
+    }
+
+    // A product in RT, with OV and CR0 as asked.
+    fn finish_product(self, rt: u8, product: Product, oe: bool, rc: bool) -> State
+        ensures { λ r. ⌜ r ≡ multipliedOf self rt product oe rc ⌝ }
+    {
+        self.set_overflow(oe, product.overflow)
+            .finish(rt, product.value, rc)
+    }
+
+    fn multiply_low(self, rt: u8, ra: u8, rb: u8, oe: bool, rc: bool) -> State
+        ensures { λ r. ⌜ r ≡ multipliedOf self rt (mullw (gprOf self ra) (gprOf self rb)) oe rc ⌝ }
+    {
+        let got = self.pair(ra, rb);
+        self.finish_product(rt, multiply(got.a, got.b), oe, rc)
+    }
+
     pub fn arithmetic(self, i: Arithmetic) -> State
         ensures { λ r. ⌜ r ≡ arithmeticOf self i ⌝ }
     {
@@ -153,6 +180,8 @@ impl State {
                 rb,
                 rc,
             } => self.multiply(sign, rt, ra, rb, rc),
+            Arithmetic::MultiplyImm { rt, ra, si } => self.multiply_imm(rt, ra, si),
+            Arithmetic::MultiplyLow { rt, ra, rb, oe, rc } => self.multiply_low(rt, ra, rb, oe, rc),
         }
     }
 }

@@ -2,9 +2,11 @@
 ghost use mathlib.Core.Path.{_≡_};
 ghost use Prim.Native.Nat.{_<_};
 ghost use Rattle.machine.specs.declared.interrupt.Cause.{Cause};
+ghost use Rattle.machine.specs.declared.interrupt.Vector.{Vector};
 ghost use Rattle.machine.specs.Interrupt.{offsetOf, vectorAt, keptOf, enteredOf, vectorFor, accessNoted, programNoted, promotionOf, promotedOf, codeOf, haltedOf, takenFor, interruptedOf};
 use crate::state::Reg;
 use crate::state::State;
+use insn::profile::Profile;
 use word::bits::Bit;
 use word::bits::bit_at;
 use word::bits::digit_of;
@@ -40,12 +42,23 @@ pub enum Halt {
     Reset,
 }
 
-fn offset(v: Vector) -> u32
-    ensures { λ r. ⌜ r ≡ offsetOf v ⌝ }
+// The one that the cores have apart.
+fn machine_check(profile: Profile) -> u32
+    ensures { λ r. ⌜ r ≡ offsetOf profile Vector.MachineCheck ⌝ }
+    ensures small { λ r. ⌜ r < 512 ⌝ }
+{
+    match profile {
+        Profile::Ppe42 => 0x000,
+        Profile::Ppe42x => 0x020,
+    }
+}
+
+fn offset(profile: Profile, v: Vector) -> u32
+    ensures { λ r. ⌜ r ≡ offsetOf profile v ⌝ }
     ensures small { λ r. ⌜ r < 512 ⌝ }
 {
     match v {
-        Vector::MachineCheck => 0x000,
+        Vector::MachineCheck => machine_check(profile),
         Vector::DataStorage => 0x060,
         Vector::InstructionStorage => 0x080,
         Vector::External => 0x0A0,
@@ -57,10 +70,10 @@ fn offset(v: Vector) -> u32
     }
 }
 
-fn vector_at(ivpr: u32, v: Vector) -> u32
-    ensures { λ r. ⌜ r ≡ vectorAt ivpr v ⌝ }
+fn vector_at(profile: Profile, ivpr: u32, v: Vector) -> u32
+    ensures { λ r. ⌜ r ≡ vectorAt profile ivpr v ⌝ }
 {
-    ivpr / 512 * 512 + offset(v)
+    ivpr / 512 * 512 + offset(profile, v)
 }
 
 // The bits of MSR that an interrupt leaves.
@@ -128,12 +141,12 @@ fn code(h: Halt) -> u32
 
 impl State {
     // SRR0 and SRR1 take IAR and MSR, MSR is cleared but for what is kept, and IAR goes to the vector.
-    pub fn enter(self, v: Vector) -> State
-        ensures { λ r. ⌜ r ≡ enteredOf self v ⌝ }
+    pub fn enter(self, profile: Profile, v: Vector) -> State
+        ensures { λ r. ⌜ r ≡ enteredOf profile self v ⌝ }
     {
         let iar = self.iar;
         let msr = self.msr;
-        let to = vector_at(self.ivpr, v);
+        let to = vector_at(profile, self.ivpr, v);
         self.set(Reg::Srr0, iar)
             .set(Reg::Srr1, msr)
             .set(Reg::Msr, msr & kept(v))
@@ -172,42 +185,42 @@ impl State {
     }
 
     // A synchronous interrupt whose ISR and EDR are noted: taken, promoted to a machine check, or halting.
-    fn take(self, c: Cause) -> State
-        ensures { λ r. ⌜ r ≡ takenFor self c ⌝ }
+    fn take(self, profile: Profile, c: Cause) -> State
+        ensures { λ r. ⌜ r ≡ takenFor profile self c ⌝ }
     {
         if bit_at(self.msr, Bit(15)) {
-            return self.enter(vector_for(c));
+            return self.enter(profile, vector_for(c));
         }
         if bit_at(self.msr, Bit(19)) {
-            return self.promote(c).enter(Vector::MachineCheck);
+            return self.promote(c).enter(profile, Vector::MachineCheck);
         }
-        self.enter(vector_for(c)).stop(Halt::MachineCheck)
+        self.enter(profile, vector_for(c)).stop(Halt::MachineCheck)
     }
 
-    pub fn data_storage(self, address: u32, store: bool) -> State
-        ensures { λ r. ⌜ r ≡ interruptedOf self (Cause.DataStorage address store) ⌝ }
+    pub fn data_storage(self, profile: Profile, address: u32, store: bool) -> State
+        ensures { λ r. ⌜ r ≡ interruptedOf profile self (Cause.DataStorage address store) ⌝ }
     {
         self.note_access(address, store)
-            .take(Cause::DataStorage { address, store })
+            .take(profile, Cause::DataStorage { address, store })
     }
 
-    pub fn instruction_storage(self) -> State
-        ensures { λ r. ⌜ r ≡ interruptedOf self Cause.InstructionStorage ⌝ }
+    pub fn instruction_storage(self, profile: Profile) -> State
+        ensures { λ r. ⌜ r ≡ interruptedOf profile self Cause.InstructionStorage ⌝ }
     {
-        self.take(Cause::InstructionStorage)
+        self.take(profile, Cause::InstructionStorage)
     }
 
-    pub fn alignment(self, address: u32, store: bool) -> State
-        ensures { λ r. ⌜ r ≡ interruptedOf self (Cause.Alignment address store) ⌝ }
+    pub fn alignment(self, profile: Profile, address: u32, store: bool) -> State
+        ensures { λ r. ⌜ r ≡ interruptedOf profile self (Cause.Alignment address store) ⌝ }
     {
         self.note_access(address, store)
-            .take(Cause::Alignment { address, store })
+            .take(profile, Cause::Alignment { address, store })
     }
 
-    pub fn program(self, word: u32, trap: bool) -> State
-        ensures { λ r. ⌜ r ≡ interruptedOf self (Cause.Program word trap) ⌝ }
+    pub fn program(self, profile: Profile, word: u32, trap: bool) -> State
+        ensures { λ r. ⌜ r ≡ interruptedOf profile self (Cause.Program word trap) ⌝ }
     {
         self.note_program(word, trap)
-            .take(Cause::Program { word, trap })
+            .take(profile, Cause::Program { word, trap })
     }
 }

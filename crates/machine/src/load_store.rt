@@ -3,6 +3,7 @@ ghost use mathlib.Core.Path.{_≡_};
 ghost use Rattle.machine.specs.LoadStore.{offsetEa, indexedEa, updatedOf, loadedState, storedState, loadedDoubleState, loadDoubleAt, storeDoubleAt, loadStoreOf};
 use crate::state::State;
 use insn::instr::LoadStore;
+use insn::profile::Profile;
 use memory::access::Access;
 use memory::load;
 use memory::load::Loaded;
@@ -32,54 +33,86 @@ impl State {
     }
 
     // The value in RT, or the interrupt.
-    pub fn loaded(self, got: Loaded, rt: u8, update: bool, ra: u8, ea: u32) -> State
-        ensures { λ r. ⌜ r ≡ loadedState self got rt update ra ea ⌝ }
+    pub fn loaded(
+        self,
+        profile: Profile,
+        got: Loaded,
+        rt: u8,
+        update: bool,
+        ra: u8,
+        ea: u32,
+    ) -> State
+        ensures { λ r. ⌜ r ≡ loadedState profile self got rt update ra ea ⌝ }
     {
         match got {
             Loaded::Value(v) => self.update(update, ra, ea).set_reg(rt, v).next(),
-            Loaded::Unaligned => self.alignment(ea, false),
-            Loaded::Outside => self.data_storage(ea, false),
+            Loaded::Unaligned => self.alignment(profile, ea, false),
+            Loaded::Outside => self.data_storage(profile, ea, false),
         }
     }
 
-    pub fn stored(self, done: Access, update: bool, ra: u8, ea: u32) -> State
-        ensures { λ r. ⌜ r ≡ storedState self done update ra ea ⌝ }
+    pub fn stored(self, profile: Profile, done: Access, update: bool, ra: u8, ea: u32) -> State
+        ensures { λ r. ⌜ r ≡ storedState profile self done update ra ea ⌝ }
     {
         match done {
             Access::Served => self.update(update, ra, ea).next(),
-            Access::Unaligned => self.alignment(ea, true),
-            Access::Outside => self.data_storage(ea, true),
+            Access::Unaligned => self.alignment(profile, ea, true),
+            Access::Outside => self.data_storage(profile, ea, true),
         }
     }
 
     // The doubleword in DT, or the interrupt.
-    fn loaded_double(self, got: LoadedDouble, dt: u8, update: bool, ra: u8, ea: u32) -> State
-        ensures { λ r. ⌜ r ≡ loadedDoubleState self got dt update ra ea ⌝ }
+    fn loaded_double(
+        self,
+        profile: Profile,
+        got: LoadedDouble,
+        dt: u8,
+        update: bool,
+        ra: u8,
+        ea: u32,
+    ) -> State
+        ensures { λ r. ⌜ r ≡ loadedDoubleState profile self got dt update ra ea ⌝ }
     {
         match got {
             LoadedDouble::Value(v) => self.update(update, ra, ea).set_vdr(dt, v).next(),
-            LoadedDouble::Unaligned => self.alignment(ea, false),
-            LoadedDouble::Outside => self.data_storage(ea, false),
+            LoadedDouble::Unaligned => self.alignment(profile, ea, false),
+            LoadedDouble::Outside => self.data_storage(profile, ea, false),
         }
     }
 
-    pub fn load_double(self, mem: &[u8], update: bool, dt: u8, ra: u8, d: u16) -> State
-        ensures { λ r. ⌜ r ≡ loadDoubleAt self (now (mem .entry)) dt (offsetEa self ra d) update ra .st ⌝ }
+    pub fn load_double(
+        self,
+        profile: Profile,
+        mem: &[u8],
+        update: bool,
+        dt: u8,
+        ra: u8,
+        d: u16,
+    ) -> State
+        ensures { λ r. ⌜ r ≡ loadDoubleAt profile self (now (mem .entry)) dt (offsetEa self ra d) update ra .st ⌝ }
     {
         let ea = self.offset_ea(ra, d);
-        self.loaded_double(load::load_double(mem, ea), dt, update, ra, ea)
+        self.loaded_double(profile, load::load_double(mem, ea), dt, update, ra, ea)
     }
 
-    pub fn store_double(self, mem: &mut [u8], update: bool, ds: u8, ra: u8, d: u16) -> State
-        ensures { λ r. ⌜ (r ≡ storeDoubleAt self (now (mem .entry)) ds (offsetEa self ra d) update ra .st) × (now (mem .exit) ≡ storeDoubleAt self (now (mem .entry)) ds (offsetEa self ra d) update ra .mem) ⌝ }
+    pub fn store_double(
+        self,
+        profile: Profile,
+        mem: &mut [u8],
+        update: bool,
+        ds: u8,
+        ra: u8,
+        d: u16,
+    ) -> State
+        ensures { λ r. ⌜ (r ≡ storeDoubleAt profile self (now (mem .entry)) ds (offsetEa self ra d) update ra .st) × (now (mem .exit) ≡ storeDoubleAt profile self (now (mem .entry)) ds (offsetEa self ra d) update ra .mem) ⌝ }
     {
         let ea = self.offset_ea(ra, d);
         let done = store::store_double(mem, ea, self.vdr(ds));
-        self.stored(done, update, ra, ea)
+        self.stored(profile, done, update, ra, ea)
     }
 
-    pub fn load_store(self, mem: &mut [u8], i: LoadStore) -> State
-        ensures { λ r. ⌜ (r ≡ loadStoreOf self (now (mem .entry)) i .st) × (now (mem .exit) ≡ loadStoreOf self (now (mem .entry)) i .mem) ⌝ }
+    pub fn load_store(self, profile: Profile, mem: &mut [u8], i: LoadStore) -> State
+        ensures { λ r. ⌜ (r ≡ loadStoreOf profile self (now (mem .entry)) i .st) × (now (mem .exit) ≡ loadStoreOf profile self (now (mem .entry)) i .mem) ⌝ }
     {
         match i {
             LoadStore::Load {
@@ -90,11 +123,11 @@ impl State {
                 d,
             } => {
                 let ea = self.offset_ea(ra, d);
-                self.loaded(load::load(&mem[..], ea, width), rt, update, ra, ea)
+                self.loaded(profile, load::load(&mem[..], ea, width), rt, update, ra, ea)
             }
             LoadStore::LoadIndexed { width, rt, ra, rb } => {
                 let ea = self.indexed_ea(ra, rb);
-                self.loaded(load::load(&mem[..], ea, width), rt, false, ra, ea)
+                self.loaded(profile, load::load(&mem[..], ea, width), rt, false, ra, ea)
             }
             LoadStore::Store {
                 width,
@@ -105,18 +138,18 @@ impl State {
             } => {
                 let ea = self.offset_ea(ra, d);
                 let done = store::store(mem, ea, width, self.reg(rs));
-                self.stored(done, update, ra, ea)
+                self.stored(profile, done, update, ra, ea)
             }
             LoadStore::StoreIndexed { width, rs, ra, rb } => {
                 let ea = self.indexed_ea(ra, rb);
                 let done = store::store(mem, ea, width, self.reg(rs));
-                self.stored(done, false, ra, ea)
+                self.stored(profile, done, false, ra, ea)
             }
             LoadStore::LoadDouble { update, dt, ra, d } => {
-                self.load_double(&mem[..], update, dt, ra, d)
+                self.load_double(profile, &mem[..], update, dt, ra, d)
             }
             LoadStore::StoreDouble { update, ds, ra, d } => {
-                self.store_double(mem, update, ds, ra, d)
+                self.store_double(profile, mem, update, ds, ra, d)
             }
         }
     }

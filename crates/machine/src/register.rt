@@ -5,17 +5,19 @@ ghost use Rattle.machine.specs.Register.{definedOf, cleanOf, soundOf, re
 use crate::refusal::Refusal;
 use crate::state::Reg;
 use crate::state::State;
+use insn::profile::Profile;
+use insn::profile::column;
 use memory::access::sized;
 
 // The bits that a register has; all others are reserved.
-pub fn defined(r: Reg) -> u32
-    ensures { λ v. ⌜ v ≡ definedOf r ⌝ }
+pub fn defined(profile: Profile, r: Reg) -> u32
+    ensures { λ v. ⌜ v ≡ definedOf profile r ⌝ }
 {
     match r {
         Reg::Cr => 0xF000_0000,
         Reg::Ctr => 0xFFFF_FFFF,
         Reg::Dacr => 0xFFFF_FFFF,
-        Reg::Dbcr => 0x318C_0000,
+        Reg::Dbcr => column(profile, 0x318C_0000, 0x318C_00C7),
         Reg::Dec => 0xFFFF_FFFF,
         Reg::Edr => 0xFFFF_FFFF,
         Reg::Isr => 0x0000_F4CF,
@@ -27,7 +29,7 @@ pub fn defined(r: Reg) -> u32
         Reg::Sprg0 => 0xFFFF_FFFF,
         Reg::Srr0 => 0xFFFF_FFFC,
         Reg::Srr1 => 0x7FFF_9DFF,
-        Reg::Tcr => 0xFFC0_0000,
+        Reg::Tcr => column(profile, 0xFFC0_0000, 0xFFE0_0000),
         Reg::Tsr => 0xFC00_0000,
         Reg::Xer => 0xE000_0000,
         Reg::Iar => 0xFFFF_FFFC,
@@ -64,38 +66,38 @@ impl State {
     }
 
     // Whether no reserved bit of a register is set.
-    fn clean(self, r: Reg) -> bool
-        ensures { λ b. ⌜ b ≡ cleanOf self r ⌝ }
+    fn clean(self, profile: Profile, r: Reg) -> bool
+        ensures { λ b. ⌜ b ≡ cleanOf profile self r ⌝ }
     {
-        self.get(r) & !defined(r) == 0
+        self.get(r) & !defined(profile, r) == 0
     }
 
     // Whether no reserved bit is set and the halt code is one of 0 to 5.
-    fn sound(self) -> bool
-        ensures { λ b. ⌜ b ≡ soundOf self ⌝ }
+    fn sound(self, profile: Profile) -> bool
+        ensures { λ b. ⌜ b ≡ soundOf profile self ⌝ }
     {
-        self.clean(Reg::Cr)
-            & self.clean(Reg::Dbcr)
-            & self.clean(Reg::Isr)
-            & self.clean(Reg::Ivpr)
-            & self.clean(Reg::Msr)
-            & self.clean(Reg::Pir)
-            & self.clean(Reg::Srr0)
-            & self.clean(Reg::Srr1)
-            & self.clean(Reg::Tcr)
-            & self.clean(Reg::Tsr)
-            & self.clean(Reg::Xer)
+        self.clean(profile, Reg::Cr)
+            & self.clean(profile, Reg::Dbcr)
+            & self.clean(profile, Reg::Isr)
+            & self.clean(profile, Reg::Ivpr)
+            & self.clean(profile, Reg::Msr)
+            & self.clean(profile, Reg::Pir)
+            & self.clean(profile, Reg::Srr0)
+            & self.clean(profile, Reg::Srr1)
+            & self.clean(profile, Reg::Tcr)
+            & self.clean(profile, Reg::Tsr)
+            & self.clean(profile, Reg::Xer)
             & (self.halt <= 5)
     }
 
     // The refusal that this state gets, or none where a run accepts it.
-    pub fn refusal(self) -> Refusal
-        ensures { λ n. ⌜ n ≡ refusalOf self ⌝ }
+    pub fn refusal(self, profile: Profile) -> Refusal
+        ensures { λ n. ⌜ n ≡ refusalOf profile self ⌝ }
     {
         if self.iar % 4 != 0 {
             return Refusal::Iar;
         }
-        if self.sound() {
+        if self.sound(profile) {
             Refusal::None
         } else {
             Refusal::Reserved
@@ -103,11 +105,11 @@ impl State {
     }
 
     // The refusal that this state gets with so many bytes of memory: 1, 2, 3.
-    pub fn start_refusal(self, size: usize) -> Refusal
-        ensures { λ n. ⌜ n ≡ startRefusal self size ⌝ }
+    pub fn start_refusal(self, profile: Profile, size: usize) -> Refusal
+        ensures { λ n. ⌜ n ≡ startRefusal profile self size ⌝ }
     {
         if sized(size) {
-            self.refusal()
+            self.refusal(profile)
         } else {
             Refusal::Memory
         }

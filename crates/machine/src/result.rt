@@ -1,6 +1,6 @@
 // What instructions write besides their target: NIA, CR0 and XER.
 ghost use mathlib.Core.Path.{_≡_};
-ghost use Rattle.machine.specs.Result.{following, nextOf, soOf, carryOf, cr0Of, recordedOf, carriedOf, overflowedOf, resultOf};
+ghost use Rattle.machine.specs.Result.{following, nextOf, soOf, carryOf, cr0Of, recordedOf, carriedOf, overflowedOf, resultOf, recordedDoubleOf, doubleResultOf};
 use crate::state::Reg;
 use crate::state::State;
 use word::bits::Bit;
@@ -8,6 +8,7 @@ use word::bits::bit_at;
 use word::bits::digit_of;
 use word::bits::field_at;
 use word::compare::record_of;
+use word::double::record_double;
 use word::rotate::put_at;
 use word::sum::plus;
 
@@ -87,5 +88,22 @@ impl State {
         ensures { λ t. ⌜ t ≡ resultOf self r v rc ⌝ }
     {
         self.record_result(v, rc).set_reg(r, v).next()
+    }
+
+    // A result of 64 bits in its pair, with CR0 of the 64 bits.
+    fn record_double_result(self, v: u64, rc: bool) -> State
+        ensures { λ r. ⌜ r ≡ recordedDoubleOf self v rc ⌝ }
+    {
+        if rc {
+            self.set_cr0(record_double(v, self.so()))
+        } else {
+            self
+        }
+    }
+
+    pub fn finish_double(self, r: u8, v: u64, rc: bool) -> State
+        ensures { λ t. ⌜ t ≡ doubleResultOf self r v rc ⌝ }
+    {
+        self.record_double_result(v, rc).set_vdr(r, v).next()
     }
 }

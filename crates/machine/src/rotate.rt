@@ -1,18 +1,23 @@
 // The rotates and shifts.
 ghost use mathlib.Core.Path.{_≡_};
 ghost use lib.Bits.{bitAnd};
-ghost use Prim.Native.Nat.{_%_, _^_};
+ghost use Prim.Native.Nat.{_%_, _^_, _<_};
 ghost use Rattle.word.specs.Rotate.{rotl};
 ghost use Rattle.word.specs.Shift.{sraw};
-ghost use Rattle.machine.specs.State.{gprOf};
-ghost use Rattle.machine.specs.Result.{resultOf};
-ghost use Rattle.machine.specs.Rotate.{maskFor, merged, shiftedOf, shiftOf, rotateOf};
+ghost use Rattle.word.specs.Double.{rotl64};
+ghost use Rattle.machine.specs.State.{gprOf, vdrOf};
+ghost use Rattle.machine.specs.Result.{resultOf, doubleResultOf};
+ghost use Rattle.machine.specs.Rotate.{maskFor, merged, mergedDouble, shiftedOf, shiftOf, rotateOf};
 use crate::state::State;
 use insn::instr::Rotate;
+use insn::instr::RotateDoubleOp;
 use insn::instr::RotateOp;
 use insn::instr::ShiftOp;
 use word::bits::Bit;
 use word::bits::Shift;
+use word::double::insert_double;
+use word::double::mask_double;
+use word::double::rotate_double;
 use word::rotate::insert;
 use word::rotate::mask_of;
 use word::rotate::rotate_left;
@@ -34,6 +39,18 @@ fn merge(op: RotateOp, r: u32, m: u32, a: u32) -> u32
     match op {
         RotateOp::Rlwimi => insert(m, r, a),
         RotateOp::Rlwinm => r & m,
+    }
+}
+
+// MASK(MB, 63), MASK(0, ME) and MASK(MB, ¬ n).
+fn merge_double(op: RotateDoubleOp, r: u64, n: u8, mb: u8, a: u64) -> u64
+    requires { ⌜ n < 64 ⌝ }
+    ensures { λ v. ⌜ v ≡ mergedDouble op r n mb a ⌝ }
+{
+    match op {
+        RotateDoubleOp::Rldicl => r & mask_double(mb, 63),
+        RotateDoubleOp::Rldicr => r & mask_double(0, mb),
+        RotateDoubleOp::Rldimi => insert_double(mask_double(mb, !n), r, a),
     }
 }
 
@@ -84,6 +101,15 @@ impl State {
         self.finish_shift(ra, shifted, rc)
     }
 
+    fn rotate_double(self, op: RotateDoubleOp, ds: u8, da: u8, sh: u8, mb: u8, rc: bool) -> State
+        ensures { λ r. ⌜ r ≡ doubleResultOf self da (mergedDouble op (rotl64 (vdrOf self ds) (sh % 2 ^ 6)) (sh % 2 ^ 6) mb (vdrOf self da)) rc ⌝ }
+    {
+        let n = sh % 64;
+        let r = rotate_double(self.vdr(ds), sh);
+        let v = merge_double(op, r, n, mb, self.vdr(da));
+        self.finish_double(da, v, rc)
+    }
+
     pub fn rotate(self, i: Rotate) -> State
         ensures { λ r. ⌜ r ≡ rotateOf self i ⌝ }
     {
@@ -107,6 +133,14 @@ impl State {
             } => self.rotate_reg(rs, ra, rb, mb, me, rc),
             Rotate::Shift { op, rs, ra, rb, rc } => self.shift(op, rs, ra, rb, rc),
             Rotate::Srawi { rs, ra, sh, rc } => self.srawi(rs, ra, sh, rc),
+            Rotate::Double {
+                op,
+                ds,
+                da,
+                sh,
+                mb,
+                rc,
+            } => self.rotate_double(op, ds, da, sh, mb, rc),
         }
     }
 }

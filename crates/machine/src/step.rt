@@ -1,12 +1,13 @@
 // One step of a core: the six lines in their order.
 ghost use mathlib.Core.Path.{_≡_};
 ghost use Rattle.machine.specs.Step.{executeOf, decodedOf, runningOf, awakeOf, highestOf, interruptibleOf, countedOf, stepOf};
-ghost use Rattle.insn.specs.Read.{decodeOf};
+ghost use Rattle.insn.specs.Read.{decodeOn};
 use crate::interrupt::Vector;
 use crate::state::State;
 use crate::timer::quiet;
 use insn::instr::Decoded;
 use insn::instr::Instr;
+use insn::profile::Profile;
 use insn::read::read;
 use memory::load::Loaded;
 use memory::load::fetch;
@@ -21,62 +22,62 @@ pub enum Pending {
 
 impl State {
     // An instruction, and the word that it was read from.
-    fn execute(self, mem: &mut [u8], word: u32, i: Instr) -> State
-        ensures { λ r. ⌜ (r ≡ executeOf self (now (mem .entry)) word i .st) × (now (mem .exit) ≡ executeOf self (now (mem .entry)) word i .mem) ⌝ }
+    fn execute(self, profile: Profile, mem: &mut [u8], word: u32, i: Instr) -> State
+        ensures { λ r. ⌜ (r ≡ executeOf profile self (now (mem .entry)) word i .st) × (now (mem .exit) ≡ executeOf profile self (now (mem .entry)) word i .mem) ⌝ }
     {
         match i {
             Instr::Arithmetic(i) => self.arithmetic(i),
             Instr::Logical(i) => self.logical(i),
             Instr::Compare(i) => self.compare(i),
             Instr::Rotate(i) => self.rotate(i),
-            Instr::LoadStore(i) => self.load_store(mem, i),
+            Instr::LoadStore(i) => self.load_store(profile, mem, i),
             Instr::Branch(i) => self.branch(i),
             Instr::Trap {
                 to,
                 ra: _,
                 rb: _,
-                tg: _,
-            } => self.trap(word, to),
-            Instr::System(i) => self.system(i),
+                tg,
+            } => self.trap(profile, word, to, tg),
+            Instr::System(i) => self.system(profile, i),
             Instr::Cache {
                 op,
                 hint: _,
                 ra,
                 rb,
-            } => self.cache(mem, op, ra, rb),
+            } => self.cache(profile, mem, op, ra, rb),
         }
     }
 
-    fn decoded(self, mem: &mut [u8], word: u32) -> State
-        ensures { λ r. ⌜ (r ≡ decodedOf self (now (mem .entry)) word (decodeOf word) .st) × (now (mem .exit) ≡ decodedOf self (now (mem .entry)) word (decodeOf word) .mem) ⌝ }
+    fn decoded(self, profile: Profile, mem: &mut [u8], word: u32) -> State
+        ensures { λ r. ⌜ (r ≡ decodedOf profile self (now (mem .entry)) word (decodeOn profile word) .st) × (now (mem .exit) ≡ decodedOf profile self (now (mem .entry)) word (decodeOn profile word) .mem) ⌝ }
     {
-        let what = read(word);
+        let what = read(profile, word);
         match what {
-            Decoded::Insn(i) => self.execute(mem, word, i),
-            Decoded::Illegal => self.program(word, false),
+            Decoded::Insn(i) => self.execute(profile, mem, word, i),
+            Decoded::Illegal => self.program(profile, word, false),
         }
     }
 
     // Line 6: fetch at IAR, decode, execute.
-    fn running(self, mem: &mut [u8]) -> State
-        ensures { λ r. ⌜ (r ≡ runningOf self (now (mem .entry)) .st) × (now (mem .exit) ≡ runningOf self (now (mem .entry)) .mem) ⌝ }
+    fn running(self, profile: Profile, mem: &mut [u8]) -> State
+        ensures { λ r. ⌜ (r ≡ runningOf profile self (now (mem .entry)) .st) × (now (mem .exit) ≡ runningOf profile self (now (mem .entry)) .mem) ⌝ }
     {
         let got = fetch(&mem[..], self.iar);
         match got {
-            Loaded::Value(word) => self.decoded(mem, word),
-            Loaded::Unaligned => self.instruction_storage(),
-            Loaded::Outside => self.instruction_storage(),
+            Loaded::Value(word) => self.decoded(profile, mem, word),
+            Loaded::Unaligned => self.instruction_storage(profile),
+            Loaded::Outside => self.instruction_storage(profile),
         }
     }
 
     // Line 5: the wait state.
-    fn awake(self, mem: &mut [u8]) -> State
-        ensures { λ r. ⌜ (r ≡ awakeOf self (now (mem .entry)) .st) × (now (mem .exit) ≡ awakeOf self (now (mem .entry)) .mem) ⌝ }
+    fn awake(self, profile: Profile, mem: &mut [u8]) -> State
+        ensures { λ r. ⌜ (r ≡ awakeOf profile self (now (mem .entry)) .st) × (now (mem .exit) ≡ awakeOf profile self (now (mem .entry)) .mem) ⌝ }
     {
         if bit_at(self.msr, Bit(13)) {
             return self;
         }
-        self.running(mem)
+        self.running(profile, mem)
     }
 
     // The highest asynchronous interrupt that is enabled: in a quiet step there is none.
@@ -105,35 +106,35 @@ impl State {
     }
 
     // Line 4: an asynchronous interrupt is taken.
-    fn interruptible(self, mem: &mut [u8], event: u8) -> State
-        ensures { λ r. ⌜ (r ≡ interruptibleOf self (now (mem .entry)) (highestOf self event) .st) × (now (mem .exit) ≡ interruptibleOf self (now (mem .entry)) (highestOf self event) .mem) ⌝ }
+    fn interruptible(self, profile: Profile, mem: &mut [u8], event: u8) -> State
+        ensures { λ r. ⌜ (r ≡ interruptibleOf profile self (now (mem .entry)) (highestOf self event) .st) × (now (mem .exit) ≡ interruptibleOf profile self (now (mem .entry)) (highestOf self event) .mem) ⌝ }
     {
         let pending = self.highest(event);
         match pending {
-            Pending::Take(v) => self.enter(v),
-            Pending::Nothing => self.awake(mem),
+            Pending::Take(v) => self.enter(profile, v),
+            Pending::Nothing => self.awake(profile, mem),
         }
     }
 
     // Line 2, the events, and line 3, the watchdog's action.
-    fn counted(self, mem: &mut [u8], event: u8) -> State
-        ensures { λ r. ⌜ (r ≡ countedOf self (now (mem .entry)) event .st) × (now (mem .exit) ≡ countedOf self (now (mem .entry)) event .mem) ⌝ }
+    fn counted(self, profile: Profile, mem: &mut [u8], event: u8) -> State
+        ensures { λ r. ⌜ (r ≡ countedOf profile self (now (mem .entry)) event .st) × (now (mem .exit) ≡ countedOf profile self (now (mem .entry)) event .mem) ⌝ }
     {
         let acts = self.acts(event);
         let ticked = self.tick(event);
         if acts {
             return ticked.act();
         }
-        ticked.interruptible(mem, event)
+        ticked.interruptible(profile, mem, event)
     }
 
     // One step. Line 1: halted, nothing happens.
-    pub fn step(self, mem: &mut [u8], event: u8) -> State
-        ensures { λ r. ⌜ (r ≡ stepOf self (now (mem .entry)) event .st) × (now (mem .exit) ≡ stepOf self (now (mem .entry)) event .mem) ⌝ }
+    pub fn step(self, profile: Profile, mem: &mut [u8], event: u8) -> State
+        ensures { λ r. ⌜ (r ≡ stepOf profile self (now (mem .entry)) event .st) × (now (mem .exit) ≡ stepOf profile self (now (mem .entry)) event .mem) ⌝ }
     {
         if self.halt != 0 {
             return self;
         }
-        self.counted(mem, event)
+        self.counted(profile, mem, event)
     }
 }

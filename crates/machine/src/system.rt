@@ -12,6 +12,8 @@ use crate::timer::bit_rises;
 use insn::instr::MoveOp;
 use insn::instr::SprOp;
 use insn::instr::System;
+use insn::profile::Profile;
+use insn::profile::is_42x;
 use word::bits::Bit;
 use word::bits::bit_at;
 use word::bits::bits_at;
@@ -51,16 +53,16 @@ fn asked(rst: u32) -> Halt
 }
 
 impl State {
-    pub fn trap(self, word: u32, to: u8) -> State
-        ensures { λ r. ⌜ r ≡ trapOf self word to ⌝ }
+    pub fn trap(self, profile: Profile, word: u32, to: u8, tg: bool) -> State
+        ensures { λ r. ⌜ r ≡ trapOf profile self word to tg ⌝ }
     {
-        if to == 0 {
+        if (to == 0) | is_42x(profile) & tg {
             return self.next();
         }
         if bit_at(self.dbcr, Bit(7)) {
             self.stop(Halt::Trap)
         } else {
-            self.program(word, true)
+            self.program(profile, word, true)
         }
     }
 
@@ -85,10 +87,10 @@ impl State {
         }
     }
 
-    fn write_dbcr(self, v: u32) -> State
-        ensures { λ r. ⌜ r ≡ dbcrWritten self v ⌝ }
+    fn write_dbcr(self, profile: Profile, v: u32) -> State
+        ensures { λ r. ⌜ r ≡ dbcrWritten profile self v ⌝ }
     {
-        let dbcr = put_at(v & defined(Reg::Dbcr), Bit(2), Bit(3), 0);
+        let dbcr = put_at(v & defined(profile, Reg::Dbcr), Bit(2), Bit(3), 0);
         self.set(Reg::Dbcr, dbcr).reset(bits_at(v, Bit(2), Bit(3)))
     }
 
@@ -100,11 +102,11 @@ impl State {
         self.set(Reg::Tsr, tsr).set(Reg::Dec, v)
     }
 
-    fn write_isr(self, v: u32) -> State
-        ensures { λ r. ⌜ r ≡ isrWritten self v ⌝ }
+    fn write_isr(self, profile: Profile, v: u32) -> State
+        ensures { λ r. ⌜ r ≡ isrWritten profile self v ⌝ }
     {
         let ep = digit_of(bit_at(self.isr, Bit(21)));
-        let isr = put_at(v & defined(Reg::Isr), Bit(21), Bit(21), ep);
+        let isr = put_at(v & defined(profile, Reg::Isr), Bit(21), Bit(21), ep);
         self.set(Reg::Isr, isr)
     }
 
@@ -116,36 +118,36 @@ impl State {
     }
 
     // A register written, its reserved bits dropped.
-    fn write(self, r: Reg, v: u32) -> State
-        ensures { λ t. ⌜ t ≡ written self r v ⌝ }
+    fn write(self, profile: Profile, r: Reg, v: u32) -> State
+        ensures { λ t. ⌜ t ≡ written profile self r v ⌝ }
     {
-        self.set(r, v & defined(r))
+        self.set(r, v & defined(profile, r))
     }
 
-    fn write_msr(self, v: u32) -> State
-        ensures { λ r. ⌜ r ≡ written self Reg.Msr v ⌝ }
+    fn write_msr(self, profile: Profile, v: u32) -> State
+        ensures { λ r. ⌜ r ≡ written profile self Reg.Msr v ⌝ }
     {
-        self.set(Reg::Msr, v & defined(Reg::Msr))
+        self.set(Reg::Msr, v & defined(profile, Reg::Msr))
     }
 
-    fn write_spr(self, n: u16, v: u32) -> State
-        ensures { λ r. ⌜ r ≡ sprWritten self n v ⌝ }
+    fn write_spr(self, profile: Profile, n: u16, v: u32) -> State
+        ensures { λ r. ⌜ r ≡ sprWritten profile self n v ⌝ }
     {
         match n {
             22 => self.write_dec(v),
-            62 => self.write_isr(v),
-            308 => self.write_dbcr(v),
+            62 => self.write_isr(profile, v),
+            308 => self.write_dbcr(profile, v),
             336 => self.write_tsr(v),
-            _ => self.write(spr(n), v),
+            _ => self.write(profile, spr(n), v),
         }
     }
 
-    fn move_spr(self, op: SprOp, r: u8, n: u16) -> State
-        ensures { λ t. ⌜ t ≡ sprMoved self op r n ⌝ }
+    fn move_spr(self, profile: Profile, op: SprOp, r: u8, n: u16) -> State
+        ensures { λ t. ⌜ t ≡ sprMoved profile self op r n ⌝ }
     {
         match op {
             SprOp::Mfspr => self.finish(r, self.read_spr(n), false),
-            SprOp::Mtspr => self.write_spr(n, self.reg(r)).next(),
+            SprOp::Mtspr => self.write_spr(profile, n, self.reg(r)).next(),
         }
     }
 
@@ -157,33 +159,34 @@ impl State {
         self.set(Reg::Msr, msr).next()
     }
 
-    fn move_reg(self, op: MoveOp, r: u8) -> State
-        ensures { λ t. ⌜ t ≡ movedOf self op r ⌝ }
+    fn move_reg(self, profile: Profile, op: MoveOp, r: u8) -> State
+        ensures { λ t. ⌜ t ≡ movedOf profile self op r ⌝ }
     {
         match op {
-            MoveOp::Mfcr => self.finish(r, self.cr & defined(Reg::Cr), false),
-            MoveOp::Mtcr0 => self.set(Reg::Cr, self.reg(r) & defined(Reg::Cr)).next(),
+            MoveOp::Mfcr => self.finish(r, self.cr & defined(profile, Reg::Cr), false),
+            MoveOp::Mtcr0 => self.set(Reg::Cr, self.reg(r) & defined(profile, Reg::Cr))
+                .next(),
             MoveOp::Mfmsr => self.finish(r, self.msr, false),
-            MoveOp::Mtmsr => self.write_msr(self.reg(r)).next(),
+            MoveOp::Mtmsr => self.write_msr(profile, self.reg(r)).next(),
             MoveOp::Wrtee => self.enable(bit_at(self.reg(r), Bit(16))),
         }
     }
 
-    fn return_from(self) -> State
-        ensures { λ r. ⌜ r ≡ returnedOf self ⌝ }
+    fn return_from(self, profile: Profile) -> State
+        ensures { λ r. ⌜ r ≡ returnedOf profile self ⌝ }
     {
         let iar = self.srr0 / 4 * 4;
-        self.write_msr(self.srr1).set(Reg::Iar, iar)
+        self.write_msr(profile, self.srr1).set(Reg::Iar, iar)
     }
 
-    pub fn system(self, i: System) -> State
-        ensures { λ r. ⌜ r ≡ systemOf self i ⌝ }
+    pub fn system(self, profile: Profile, i: System) -> State
+        ensures { λ r. ⌜ r ≡ systemOf profile self i ⌝ }
     {
         match i {
-            System::Spr { op, rt, spr } => self.move_spr(op, rt, spr),
-            System::Move { op, rt } => self.move_reg(op, rt),
+            System::Spr { op, rt, spr } => self.move_spr(profile, op, rt, spr),
+            System::Move { op, rt } => self.move_reg(profile, op, rt),
             System::Wrteei { e } => self.enable(e),
-            System::Rfi => self.return_from(),
+            System::Rfi => self.return_from(profile),
             System::Sync => self.next(),
         }
     }

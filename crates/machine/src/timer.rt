@@ -6,7 +6,7 @@ ghost use lib.Dec.{eqb};
 ghost use Rattle.word.specs.Bits.{bitAt};
 ghost use Rattle.memory.specs.Access.{pick};
 ghost use Rattle.machine.specs.declared.interrupt.Halt.{Halt};
-ghost use Rattle.machine.specs.Timer.{timerIn, decAfter, rises, watchdogEvent, tsrAfter, pendingOf, eventNoted, tickedOf, actsOf, actedOf};
+ghost use Rattle.machine.specs.Timer.{timerIn, countsIn, decAfter, rises, watchdogEvent, tsrAfter, pendingOf, eventNoted, tickedOf, actsOf, actedOf};
 use crate::interrupt::Halt;
 use crate::state::Reg;
 use crate::state::State;
@@ -33,11 +33,19 @@ fn watchdog_event(tcr: u32, event: u8) -> bool
     timer_in(event, bits_at(tcr, Bit(0), Bit(1)))
 }
 
+// Whether DEC counts, by TCR[DS].
+fn counts_in(tcr: u32, event: u8) -> bool
+    ensures { λ r. ⌜ r ≡ countsIn tcr event ⌝ }
+{
+    let always = !bit_at(tcr, Bit(9)) | bit_at(event as u32, Bit(30));
+    let timer = timer_in(event, select(bit_at(tcr, Bit(9)), 3, 1));
+    if bit_at(tcr, Bit(10)) { timer } else { always }
+}
+
 fn dec_after(dec: u32, tcr: u32, event: u8) -> u32
     ensures { λ r. ⌜ r ≡ decAfter dec tcr event ⌝ }
 {
-    let counts = !bit_at(tcr, Bit(9)) | bit_at(event as u32, Bit(30));
-    select(counts, plus(dec, 0xFFFF_FFFF), dec)
+    select(counts_in(tcr, event), plus(dec, 0xFFFF_FFFF), dec)
 }
 
 // Whether bit 0 goes from 0 to 1.
@@ -71,10 +79,14 @@ fn event_pending(tsr: u32, tcr: u32, event: u8) -> bool
 
 // A quiet step, as most are: no event, and none of TCR[WIE], TCR[DIE], TCR[FIE] and TCR[DS]. DEC counts, and nothing can be pending.
 pub fn quiet(tcr: u32, event: u8) -> bool
-    ensures { λ r. ⌜ r ≡ (eqb event 0 && not (bitAt tcr 4 || bitAt tcr 5 || bitAt tcr 8 || bitAt tcr 9)) ⌝ }
+    ensures { λ r. ⌜ r ≡ (eqb event 0 && not (bitAt tcr 4 || bitAt tcr 5 || bitAt tcr 8 || bitAt tcr 9 || bitAt tcr 10)) ⌝ }
 {
     (event == 0)
-        & !(bit_at(tcr, Bit(4)) | bit_at(tcr, Bit(5)) | bit_at(tcr, Bit(8)) | bit_at(tcr, Bit(9)))
+        & !(bit_at(tcr, Bit(4))
+            | bit_at(tcr, Bit(5))
+            | bit_at(tcr, Bit(8))
+            | bit_at(tcr, Bit(9))
+            | bit_at(tcr, Bit(10)))
 }
 
 // What a watchdog action is, by TCR[WRC].
@@ -100,7 +112,7 @@ impl State {
 
     // The event byte applied in a quiet step: DEC counts, DIS is set where its bit 0 rises, and EP is cleared.
     fn count(self) -> State
-        requires { ⌜ (bitAt (self .tcr) 4 || bitAt (self .tcr) 5 || bitAt (self .tcr) 8 || bitAt (self .tcr) 9) ≡ false ⌝ }
+        requires { ⌜ (bitAt (self .tcr) 4 || bitAt (self .tcr) 5 || bitAt (self .tcr) 8 || bitAt (self .tcr) 9 || bitAt (self .tcr) 10) ≡ false ⌝ }
         ensures { λ r. ⌜ r ≡ tickedOf self 0 ⌝ }
     {
         let dec = plus(self.dec, 0xFFFF_FFFF);

@@ -1,7 +1,7 @@
 // The step that marks a reach past its memory: a loop that ends at a halt ends there too, and of the other steps only dcbz and
 // doublewords pay for the question.
 ghost use mathlib.Core.Path.{_≡_};
-ghost use Rattle.insn.specs.Read.{decodeOf};
+ghost use Rattle.insn.specs.Read.{decodeOn};
 ghost use Rattle.machine.specs.LoadStore.{offsetEa, loadedState, storedState, loadStoreOf};
 ghost use Rattle.machine.specs.Cache.{cacheOf};
 ghost use Rattle.machine.specs.Step.{executeOf, decodedOf, runningOf, awakeOf, highestOf, interruptibleOf, countedOf, stepOf};
@@ -13,6 +13,7 @@ use insn::instr::CacheOp;
 use insn::instr::Decoded;
 use insn::instr::Instr;
 use insn::instr::LoadStore;
+use insn::profile::Profile;
 use insn::read::read;
 use machine::state::State;
 use machine::step::Pending;
@@ -27,16 +28,37 @@ use memory::store;
 use word::bits::Bit;
 use word::bits::bit_at;
 
-fn loaded_marked(state: State, got: Loaded, rt: u8, update: bool, ra: u8, ea: u32) -> State
-    ensures { λ r. ⌜ r ≡ markedIf (loadReaches got) (loadedState state got rt update ra ea) ⌝ }
+fn loaded_marked(
+    profile: Profile,
+    state: State,
+    got: Loaded,
+    rt: u8,
+    update: bool,
+    ra: u8,
+    ea: u32,
+) -> State
+    ensures { λ r. ⌜ r ≡ markedIf (loadReaches got) (loadedState profile state got rt update ra ea) ⌝ }
 {
-    mark(state.loaded(got, rt, update, ra, ea), load_reaches(got))
+    mark(
+        state.loaded(profile, got, rt, update, ra, ea),
+        load_reaches(got),
+    )
 }
 
-fn stored_marked(state: State, done: Access, update: bool, ra: u8, ea: u32) -> State
-    ensures { λ r. ⌜ r ≡ markedIf (reachesPast done) (storedState state done update ra ea) ⌝ }
+fn stored_marked(
+    profile: Profile,
+    state: State,
+    done: Access,
+    update: bool,
+    ra: u8,
+    ea: u32,
+) -> State
+    ensures { λ r. ⌜ r ≡ markedIf (reachesPast done) (storedState profile state done update ra ea) ⌝ }
 {
-    mark(state.stored(done, update, ra, ea), reaches_past(done))
+    mark(
+        state.stored(profile, done, update, ra, ea),
+        reaches_past(done),
+    )
 }
 
 fn double_reaches(state: State, len: usize, ra: u8, d: u16) -> bool
@@ -45,8 +67,8 @@ fn double_reaches(state: State, len: usize, ra: u8, d: u16) -> bool
     reaches_past(double_access(len, state.offset_ea(ra, d)))
 }
 
-fn load_store_marked(state: State, mem: &mut [u8], i: LoadStore) -> State
-    ensures { λ r. ⌜ (r ≡ markedOf (loadStoreOf state (now (mem .entry)) i)) × (now (mem .exit) ≡ loadStoreOf state (now (mem .entry)) i .mem) ⌝ }
+fn load_store_marked(profile: Profile, state: State, mem: &mut [u8], i: LoadStore) -> State
+    ensures { λ r. ⌜ (r ≡ markedOf (loadStoreOf profile state (now (mem .entry)) i)) × (now (mem .exit) ≡ loadStoreOf profile state (now (mem .entry)) i .mem) ⌝ }
 {
     match i {
         LoadStore::Load {
@@ -57,11 +79,27 @@ fn load_store_marked(state: State, mem: &mut [u8], i: LoadStore) -> State
             d,
         } => {
             let ea = state.offset_ea(ra, d);
-            loaded_marked(state, load::load(&mem[..], ea, width), rt, update, ra, ea)
+            loaded_marked(
+                profile,
+                state,
+                load::load(&mem[..], ea, width),
+                rt,
+                update,
+                ra,
+                ea,
+            )
         }
         LoadStore::LoadIndexed { width, rt, ra, rb } => {
             let ea = state.indexed_ea(ra, rb);
-            loaded_marked(state, load::load(&mem[..], ea, width), rt, false, ra, ea)
+            loaded_marked(
+                profile,
+                state,
+                load::load(&mem[..], ea, width),
+                rt,
+                false,
+                ra,
+                ea,
+            )
         }
         LoadStore::Store {
             width,
@@ -72,26 +110,29 @@ fn load_store_marked(state: State, mem: &mut [u8], i: LoadStore) -> State
         } => {
             let ea = state.offset_ea(ra, d);
             let done = store::store(mem, ea, width, state.reg(rs));
-            stored_marked(state, done, update, ra, ea)
+            stored_marked(profile, state, done, update, ra, ea)
         }
         LoadStore::StoreIndexed { width, rs, ra, rb } => {
             let ea = state.indexed_ea(ra, rb);
             let done = store::store(mem, ea, width, state.reg(rs));
-            stored_marked(state, done, false, ra, ea)
+            stored_marked(profile, state, done, false, ra, ea)
         }
         LoadStore::LoadDouble { update, dt, ra, d } => {
             let past = double_reaches(state, mem.len(), ra, d);
-            mark(state.load_double(&mem[..], update, dt, ra, d), past)
+            mark(
+                state.load_double(profile, &mem[..], update, dt, ra, d),
+                past,
+            )
         }
         LoadStore::StoreDouble { update, ds, ra, d } => {
             let past = double_reaches(state, mem.len(), ra, d);
-            mark(state.store_double(mem, update, ds, ra, d), past)
+            mark(state.store_double(profile, mem, update, ds, ra, d), past)
         }
     }
 }
 
-fn cache_reaches(state: State, mem: &[u8], op: CacheOp, ra: u8, rb: u8) -> bool
-    ensures { λ r. ⌜ r ≡ cacheOf state (now (mem .entry)) op ra rb .past ⌝ }
+fn cache_reaches(profile: Profile, state: State, mem: &[u8], op: CacheOp, ra: u8, rb: u8) -> bool
+    ensures { λ r. ⌜ r ≡ cacheOf profile state (now (mem .entry)) op ra rb .past ⌝ }
 {
     match op {
         CacheOp::Dcbf => false,
@@ -101,96 +142,103 @@ fn cache_reaches(state: State, mem: &[u8], op: CacheOp, ra: u8, rb: u8) -> bool
     }
 }
 
-fn cache_marked(state: State, mem: &mut [u8], op: CacheOp, ra: u8, rb: u8) -> State
-    ensures { λ r. ⌜ (r ≡ markedOf (cacheOf state (now (mem .entry)) op ra rb)) × (now (mem .exit) ≡ cacheOf state (now (mem .entry)) op ra rb .mem) ⌝ }
+fn cache_marked(
+    profile: Profile,
+    state: State,
+    mem: &mut [u8],
+    op: CacheOp,
+    ra: u8,
+    rb: u8,
+) -> State
+    ensures { λ r. ⌜ (r ≡ markedOf (cacheOf profile state (now (mem .entry)) op ra rb)) × (now (mem .exit) ≡ cacheOf profile state (now (mem .entry)) op ra rb .mem) ⌝ }
 {
-    let past = cache_reaches(state, &mem[..], op, ra, rb);
-    mark(state.cache(mem, op, ra, rb), past)
+    let past = cache_reaches(profile, state, &mem[..], op, ra, rb);
+    mark(state.cache(profile, mem, op, ra, rb), past)
 }
 
-fn execute_marked(state: State, mem: &mut [u8], word: u32, i: Instr) -> State
-    ensures { λ r. ⌜ (r ≡ markedOf (executeOf state (now (mem .entry)) word i)) × (now (mem .exit) ≡ executeOf state (now (mem .entry)) word i .mem) ⌝ }
+fn execute_marked(profile: Profile, state: State, mem: &mut [u8], word: u32, i: Instr) -> State
+    ensures { λ r. ⌜ (r ≡ markedOf (executeOf profile state (now (mem .entry)) word i)) × (now (mem .exit) ≡ executeOf profile state (now (mem .entry)) word i .mem) ⌝ }
 {
     match i {
         Instr::Arithmetic(i) => state.arithmetic(i),
         Instr::Logical(i) => state.logical(i),
         Instr::Compare(i) => state.compare(i),
         Instr::Rotate(i) => state.rotate(i),
-        Instr::LoadStore(i) => load_store_marked(state, mem, i),
+        Instr::LoadStore(i) => load_store_marked(profile, state, mem, i),
         Instr::Branch(i) => state.branch(i),
         Instr::Trap {
             to,
             ra: _,
             rb: _,
-            tg: _,
-        } => state.trap(word, to),
-        Instr::System(i) => state.system(i),
+            tg,
+        } => state.trap(profile, word, to, tg),
+        Instr::System(i) => state.system(profile, i),
         Instr::Cache {
             op,
             hint: _,
             ra,
             rb,
-        } => cache_marked(state, mem, op, ra, rb),
+        } => cache_marked(profile, state, mem, op, ra, rb),
     }
 }
 
-fn decoded_marked(state: State, mem: &mut [u8], word: u32) -> State
-    ensures { λ r. ⌜ (r ≡ markedOf (decodedOf state (now (mem .entry)) word (decodeOf word))) × (now (mem .exit) ≡ decodedOf state (now (mem .entry)) word (decodeOf word) .mem) ⌝ }
+fn decoded_marked(profile: Profile, state: State, mem: &mut [u8], word: u32) -> State
+    ensures { λ r. ⌜ (r ≡ markedOf (decodedOf profile state (now (mem .entry)) word (decodeOn profile word))) × (now (mem .exit) ≡ decodedOf profile state (now (mem .entry)) word (decodeOn profile word) .mem) ⌝ }
 {
-    let what = read(word);
+    let what = read(profile, word);
     match what {
-        Decoded::Insn(i) => execute_marked(state, mem, word, i),
-        Decoded::Illegal => state.program(word, false),
+        Decoded::Insn(i) => execute_marked(profile, state, mem, word, i),
+        Decoded::Illegal => state.program(profile, word, false),
     }
 }
 
-fn running_marked(state: State, mem: &mut [u8]) -> State
-    ensures { λ r. ⌜ (r ≡ markedOf (runningOf state (now (mem .entry)))) × (now (mem .exit) ≡ runningOf state (now (mem .entry)) .mem) ⌝ }
+fn running_marked(profile: Profile, state: State, mem: &mut [u8]) -> State
+    ensures { λ r. ⌜ (r ≡ markedOf (runningOf profile state (now (mem .entry)))) × (now (mem .exit) ≡ runningOf profile state (now (mem .entry)) .mem) ⌝ }
 {
     let got = fetch(&mem[..], state.iar);
     match got {
-        Loaded::Value(word) => decoded_marked(state, mem, word),
-        Loaded::Unaligned => state.instruction_storage(),
-        Loaded::Outside => mark(state.instruction_storage(), true),
+        Loaded::Value(word) => decoded_marked(profile, state, mem, word),
+        Loaded::Unaligned => state.instruction_storage(profile),
+        Loaded::Outside => mark(state.instruction_storage(profile), true),
     }
 }
 
-fn awake_marked(state: State, mem: &mut [u8]) -> State
-    ensures { λ r. ⌜ (r ≡ markedOf (awakeOf state (now (mem .entry)))) × (now (mem .exit) ≡ awakeOf state (now (mem .entry)) .mem) ⌝ }
+fn awake_marked(profile: Profile, state: State, mem: &mut [u8]) -> State
+    ensures { λ r. ⌜ (r ≡ markedOf (awakeOf profile state (now (mem .entry)))) × (now (mem .exit) ≡ awakeOf profile state (now (mem .entry)) .mem) ⌝ }
 {
     if bit_at(state.msr, Bit(13)) {
         return state;
     }
-    running_marked(state, mem)
+    running_marked(profile, state, mem)
 }
 
-fn interruptible_marked(state: State, mem: &mut [u8], event: u8) -> State
-    ensures { λ r. ⌜ (r ≡ markedOf (interruptibleOf state (now (mem .entry)) (highestOf state event))) × (now (mem .exit) ≡ interruptibleOf state (now (mem .entry)) (highestOf state event) .mem) ⌝ }
+fn interruptible_marked(profile: Profile, state: State, mem: &mut [u8], event: u8) -> State
+    ensures { λ r. ⌜ (r ≡ markedOf (interruptibleOf profile state (now (mem .entry)) (highestOf state event))) × (now (mem .exit) ≡ interruptibleOf profile state (now (mem .entry)) (highestOf state event) .mem) ⌝ }
 {
     let pending = state.highest(event);
     match pending {
-        Pending::Take(v) => state.enter(v),
-        Pending::Nothing => awake_marked(state, mem),
+        Pending::Take(v) => state.enter(profile, v),
+        Pending::Nothing => awake_marked(profile, state, mem),
     }
 }
 
-fn counted_marked(state: State, mem: &mut [u8], event: u8) -> State
-    ensures { λ r. ⌜ (r ≡ markedOf (countedOf state (now (mem .entry)) event)) × (now (mem .exit) ≡ countedOf state (now (mem .entry)) event .mem) ⌝ }
+fn counted_marked(profile: Profile, state: State, mem: &mut [u8], event: u8) -> State
+    ensures { λ r. ⌜ (r ≡ markedOf (countedOf profile state (now (mem .entry)) event)) × (now (mem .exit) ≡ countedOf profile state (now (mem .entry)) event .mem) ⌝ }
 {
     let acts = state.acts(event);
     let ticked = state.tick(event);
     if acts {
         return ticked.act();
     }
-    interruptible_marked(ticked, mem, event)
+    interruptible_marked(profile, ticked, mem, event)
 }
 
 // The step's lines in their order; only the last reaches anything.
-pub fn step_marked(state: State, mem: &mut [u8], event: u8) -> State
-    ensures { λ r. ⌜ (r ≡ markedOf (stepOf state (now (mem .entry)) event)) × (now (mem .exit) ≡ stepOf state (now (mem .entry)) event .mem) ⌝ }
+pub fn step_marked(profile: Profile, state: State, mem: &mut [u8], event: u8) -> State
+    ensures { λ r. ⌜ (r ≡ markedOf (stepOf profile state (now (mem .entry)) event)) × (now (mem .exit) ≡ stepOf profile state (now (mem .entry)) event .mem) ⌝ }
 {
     if state.halt != 0 {
         return state;
     }
-    counted_marked(state, mem, event)
+    counted_marked(profile, state, mem, event)
 }

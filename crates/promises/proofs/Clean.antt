@@ -10,6 +10,7 @@ use Rattle.word.specs.Bits.{bitAt, fieldAt}
 use Rattle.word.specs.Logical.{inv}
 use Rattle.word.specs.Rotate.{wordOf, mask, putAt}
 use Rattle.word.proofs.Laws.{split}
+use Rattle.word.proofs.Truth.{never}
 use Rattle.word.proofs.ByBits.{bit-and, bit-or, bit-inv, word-is}
 
 -- no reserved bit is set; `inv d` has no bit left of the word, so no law needs w below 2 ^ 32
@@ -34,6 +35,11 @@ out-and : (a b r : Bool) → (a && r) ≡ false → ((a && b) && r) ≡ false
 out-and true true r h = h
 out-and true false r h = refl
 out-and false b r h = refl
+
+out-more : (a b c : Bool) → (a && b) ≡ false → (a && (b && c)) ≡ false
+out-more true true c h = never h
+out-more true false c h = refl
+out-more false b c h = refl
 
 out-not : (a : Bool) → (a && not a) ≡ false
 out-not true = refl
@@ -76,3 +82,8 @@ module _ {d : ℕ} where
   -- where the reserved bits are the last j
   pub clean-last : (j w : ℕ) → inv d ≡ 2 ^ j - 1 → w % 2 ^ j ≡ 0 → Clean d w
   clean-last j w e h = record { none = rw e (and-mask w j ∙ h) }
+
+-- where more bits are defined
+pub clean-wider : (c d : ℕ) {w : ℕ} → bitAnd (inv c) (inv d) ≡ inv d → Clean c w → Clean d w
+clean-wider c d {w} h k =
+    by-bits w (λ i l. ap (λ (x : ℕ). bitAt w i && bitAt x i) (sym h) ∙ rw (bit-and (inv c) (inv d) i) (out-more (bitAt w i) (bitAt (inv c) i) (bitAt (inv d) i) (out-bit k i)))

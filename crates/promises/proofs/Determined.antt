@@ -3,8 +3,9 @@ use Prim.Native.Nat.{ℕ}
 use mathlib.Core.Path.{_≡_, sym, ap, _∙_}
 use mathlib.Core.List.{List}
 use lib.ListN.{length}
-use Rattle.insn.specs.Read.{decodeOf}
-use Rattle.insn.specs.Write.{writtenOf}
+use Rattle.insn.specs.Read.{decodeOn}
+use Rattle.insn.specs.Write.{writtenOn}
+use Rattle.insn.specs.declared.profile.Profile.{Profile}
 use Rattle.insn.specs.declared.instr.Instr.{Instr}
 use Rattle.insn.specs.declared.instr.Decoded.{Decoded}
 use Rattle.insn.specs.declared.instr.Written.{Written}
@@ -40,128 +41,128 @@ use Rattle.abi_asm.specs.Lines.{Assembles, assembledAnswer, listedAnswer}
 
 -- a contract that is an equation has one answer
 one : {A : Type 0} {x y z : A} → x ≡ z → y ≡ z → x ≡ y
-one p q = p ∙ sym q
+one a b = a ∙ sym b
 
 -- and one that is two has one answer and one thing left
 two : {A B : Type 0} {x y z : A} {u v w : B} → (x ≡ z) × (u ≡ w) → (y ≡ z) × (v ≡ w) → (x ≡ y) × (u ≡ v)
-two p q = (one (p .0) (q .0), one (p .1) (q .1))
+two a b = (one (a .0) (b .0), one (a .1) (b .1))
 
 three : {A B C : Type 0} {x y z : A} {u v w : B} {l m n : C} → (x ≡ z) × ((u ≡ w) × (l ≡ n)) → (y ≡ z) × ((v ≡ w) × (m ≡ n)) → (x ≡ y) × ((u ≡ v) × (l ≡ m))
-three p q = (one (p .0) (q .0), two (p .1) (q .1))
+three a b = (one (a .0) (b .0), two (a .1) (b .1))
 
-pub read-determined : (w : ℕ) (r q : Decoded) → r ≡ decodeOf w → q ≡ decodeOf w → r ≡ q
-read-determined w r q = one
+pub read-determined : (p : Profile) (w : ℕ) (r q : Decoded) → r ≡ decodeOn p w → q ≡ decodeOn p w → r ≡ q
+read-determined p w r q = one
 
-pub write-determined : (i : Instr) (r q : Written) → r ≡ writtenOf i → q ≡ writtenOf i → r ≡ q
-write-determined i r q = one
+pub write-determined : (p : Profile) (i : Instr) (r q : Written) → r ≡ writtenOn p i → q ≡ writtenOn p i → r ≡ q
+write-determined p i r q = one
 
-module _ (s : State) (m : List ℕ) where
+module _ (p : Profile) (s : State) (m : List ℕ) where
   pub run-determined : (ev : List ℕ) (budget : ℕ) (r q : Outcome) (m′ n′ : List ℕ)
-      → (r ≡ runOutcome s m ev budget) × (m′ ≡ runMemory s m ev budget) → (q ≡ runOutcome s m ev budget) × (n′ ≡ runMemory s m ev budget) → (r ≡ q) × (m′ ≡ n′)
+      → (r ≡ runOutcome p s m ev budget) × (m′ ≡ runMemory p s m ev budget) → (q ≡ runOutcome p s m ev budget) × (n′ ≡ runMemory p s m ev budget) → (r ≡ q) × (m′ ≡ n′)
   run-determined ev budget r q m′ n′ = two
 
   pub reach-determined : (ev : List ℕ) (budget : ℕ) (r q : Reached) (m′ n′ : List ℕ)
-      → (r ≡ record { outcome = runOutcome s m ev budget; past = runPast s m ev budget }) × (m′ ≡ runMemory s m ev budget)
-      → (q ≡ record { outcome = runOutcome s m ev budget; past = runPast s m ev budget }) × (n′ ≡ runMemory s m ev budget) → (r ≡ q) × (m′ ≡ n′)
+      → (r ≡ record { outcome = runOutcome p s m ev budget; past = runPast p s m ev budget }) × (m′ ≡ runMemory p s m ev budget)
+      → (q ≡ record { outcome = runOutcome p s m ev budget; past = runPast p s m ev budget }) × (n′ ≡ runMemory p s m ev budget) → (r ≡ q) × (m′ ≡ n′)
   reach-determined ev budget r q m′ n′ = two
 
   pub inside-determined : (ev : List ℕ) (budget : ℕ) (r q : Reached) (m′ n′ : List ℕ)
-      → (r ≡ record { outcome = insideOutcome s m ev budget; past = runPast s m ev budget }) × (m′ ≡ insideMemory s m ev budget)
-      → (q ≡ record { outcome = insideOutcome s m ev budget; past = runPast s m ev budget }) × (n′ ≡ insideMemory s m ev budget) → (r ≡ q) × (m′ ≡ n′)
+      → (r ≡ record { outcome = insideOutcome p s m ev budget; past = runPast p s m ev budget }) × (m′ ≡ insideMemory p s m ev budget)
+      → (q ≡ record { outcome = insideOutcome p s m ev budget; past = runPast p s m ev budget }) × (n′ ≡ insideMemory p s m ev budget) → (r ≡ q) × (m′ ≡ n′)
   inside-determined ev budget r q m′ n′ = two
 
   pub step-determined : (e : ℕ) (r q : Outcome) (m′ n′ : List ℕ)
-      → (r ≡ stepOutcome s m e) × (m′ ≡ stepMemory s m e) → (q ≡ stepOutcome s m e) × (n′ ≡ stepMemory s m e) → (r ≡ q) × (m′ ≡ n′)
+      → (r ≡ stepOutcome p s m e) × (m′ ≡ stepMemory p s m e) → (q ≡ stepOutcome p s m e) × (n′ ≡ stepMemory p s m e) → (r ≡ q) × (m′ ≡ n′)
   step-determined e r q m′ n′ = two
 
   pub lent-determined : (e : ℕ) (r q : Answer) (s′ t′ : State) (m′ n′ : List ℕ)
-      → (r ≡ answerOf (stepOutcome s m e)) × ((s′ ≡ stepOutcome s m e .state) × (m′ ≡ stepMemory s m e)) → (q ≡ answerOf (stepOutcome s m e)) × ((t′ ≡ stepOutcome s m e .state) × (n′ ≡ stepMemory s m e))
+      → (r ≡ answerOf (stepOutcome p s m e)) × ((s′ ≡ stepOutcome p s m e .state) × (m′ ≡ stepMemory p s m e)) → (q ≡ answerOf (stepOutcome p s m e)) × ((t′ ≡ stepOutcome p s m e .state) × (n′ ≡ stepMemory p s m e))
       → (r ≡ q) × ((s′ ≡ t′) × (m′ ≡ n′))
   lent-determined e r q s′ t′ m′ n′ = three
 
-  pub told-determined : (e : ℕ) (r q : Told) → r ≡ toldOf s m e → q ≡ toldOf s m e → r ≡ q
+  pub told-determined : (e : ℕ) (r q : Told) → r ≡ toldOf p s m e → q ≡ toldOf p s m e → r ≡ q
   told-determined e r q = one
 
-  pub use-determined : (e : ℕ) (r q : Use) → r ≡ useOf s m e → q ≡ useOf s m e → r ≡ q
+  pub use-determined : (e : ℕ) (r q : Use) → r ≡ useOf p s m e → q ≡ useOf p s m e → r ≡ q
   use-determined e r q = one
 
-  pub capture-write-determined : (out : List ℕ) (r q : CaptureWritten) (o′ p′ : List ℕ)
-      → (r ≡ captureWritten s m out) × (o′ ≡ outOf s m out) → (q ≡ captureWritten s m out) × (p′ ≡ outOf s m out) → (r ≡ q) × (o′ ≡ p′)
-  capture-write-determined out r q o′ p′ = two
+  pub capture-write-determined : (out : List ℕ) (r q : CaptureWritten) (o′ u′ : List ℕ)
+      → (r ≡ captureWritten p s m out) × (o′ ≡ outOf p s m out) → (q ≡ captureWritten p s m out) × (u′ ≡ outOf p s m out) → (r ≡ q) × (o′ ≡ u′)
+  capture-write-determined out r q o′ u′ = two
 
-pub capture-state-determined : (f : List ℕ) (r q : Read) → r ≡ readOf f → q ≡ readOf f → r ≡ q
-capture-state-determined f r q = one
+pub capture-state-determined : (p : Profile) (f : List ℕ) (r q : Read) → r ≡ readOf p f → q ≡ readOf p f → r ≡ q
+capture-state-determined p f r q = one
 
-pub capture-part-determined : (f r q : List ℕ) → r ≡ partOf f → q ≡ partOf f → r ≡ q
-capture-part-determined f r q = one
+pub capture-part-determined : (p : Profile) (f r q : List ℕ) → r ≡ partOf p f → q ≡ partOf p f → r ≡ q
+capture-part-determined p f r q = one
 
 pub srecord-read-determined : (m f : List ℕ) (r q : Verdict) (m′ n′ : List ℕ)
     → (r ≡ srecordRead (length m) f) × (m′ ≡ srecordMemory m f) → (q ≡ srecordRead (length m) f) × (n′ ≡ srecordMemory m f) → (r ≡ q) × (m′ ≡ n′)
 srecord-read-determined m f r q m′ n′ = two
 
-pub srecord-write-determined : (m out : List ℕ) (r q : SrecordWritten) (o′ p′ : List ℕ)
-    → (r ≡ srecordWritten m out) × (o′ ≡ srecordOut m out) → (q ≡ srecordWritten m out) × (p′ ≡ srecordOut m out) → (r ≡ q) × (o′ ≡ p′)
-srecord-write-determined m out r q o′ p′ = two
+pub srecord-write-determined : (m out : List ℕ) (r q : SrecordWritten) (o′ u′ : List ℕ)
+    → (r ≡ srecordWritten m out) × (o′ ≡ srecordOut m out) → (q ≡ srecordWritten m out) × (u′ ≡ srecordOut m out) → (r ≡ q) × (o′ ≡ u′)
+srecord-write-determined m out r q o′ u′ = two
 
 -- the C functions, whose states are bytes
-pub line-determined : (s : List ℕ) (r q : Assembled) → LineAnswer s r → LineAnswer s q → r ≡ q
-line-determined s r q a b = answer-once s r q a b
+pub line-determined : (p : Profile) (s : List ℕ) (r q : Assembled) → LineAnswer p s r → LineAnswer p s q → r ≡ q
+line-determined p s r q a b = answer-once p s r q a b
 
-pub listing-determined : (w : ℕ) (out : List ℕ) (r q : Listed) (o′ p′ : List ℕ)
-    → (r ≡ listedOf (decodeOf w) out) × (o′ ≡ listedOut (decodeOf w) out) → (q ≡ listedOf (decodeOf w) out) × (p′ ≡ listedOut (decodeOf w) out) → (r ≡ q) × (o′ ≡ p′)
-listing-determined w out r q o′ p′ = two
+pub listing-determined : (p : Profile) (w : ℕ) (out : List ℕ) (r q : Listed) (o′ u′ : List ℕ)
+    → (r ≡ listedOf (decodeOn p w) out) × (o′ ≡ listedOut (decodeOn p w) out) → (q ≡ listedOf (decodeOn p w) out) × (u′ ≡ listedOut (decodeOn p w) out) → (r ≡ q) × (o′ ≡ u′)
+listing-determined p w out r q o′ u′ = two
 
-pub c-assemble-determined : (s : List ℕ) (r q : ℕ) → Assembles s r → Assembles s q → r ≡ q
-c-assemble-determined s r q a b = a .packed ∙ (ap assembledAnswer (answer-once s (a .answer) (b .answer) (a .given) (b .given)) ∙ sym (b .packed))
+pub c-assemble-determined : (p : Profile) (s : List ℕ) (r q : ℕ) → Assembles p s r → Assembles p s q → r ≡ q
+c-assemble-determined p s r q a b = a .packed ∙ (ap assembledAnswer (answer-once p s (a .answer) (b .answer) (a .given) (b .given)) ∙ sym (b .packed))
 
-pub c-disassemble-determined : (w : ℕ) (out : List ℕ) (r q : ℕ) (o′ p′ : List ℕ)
-    → (r ≡ listedAnswer (listedOf (decodeOf w) out)) × (o′ ≡ listedOut (decodeOf w) out) → (q ≡ listedAnswer (listedOf (decodeOf w) out)) × (p′ ≡ listedOut (decodeOf w) out) → (r ≡ q) × (o′ ≡ p′)
-c-disassemble-determined w out r q o′ p′ = two
+pub c-disassemble-determined : (p : Profile) (w : ℕ) (out : List ℕ) (r q : ℕ) (o′ u′ : List ℕ)
+    → (r ≡ listedAnswer (listedOf (decodeOn p w) out)) × (o′ ≡ listedOut (decodeOn p w) out) → (q ≡ listedAnswer (listedOf (decodeOn p w) out)) × (u′ ≡ listedOut (decodeOn p w) out) → (r ≡ q) × (o′ ≡ u′)
+c-disassemble-determined p w out r q o′ u′ = two
 
-pub c-legal-determined : (w r q : ℕ) → r ≡ legalOf (decodeOf w) → q ≡ legalOf (decodeOf w) → r ≡ q
-c-legal-determined w r q = one
+pub c-legal-determined : (p : Profile) (w r q : ℕ) → r ≡ legalOf (decodeOn p w) → q ≡ legalOf (decodeOn p w) → r ≡ q
+c-legal-determined p w r q = one
 
-pub c-rewrite-determined : (w r q : ℕ) → r ≡ rewriteOf (decodeOf w) → q ≡ rewriteOf (decodeOf w) → r ≡ q
-c-rewrite-determined w r q = one
+pub c-rewrite-determined : (p : Profile) (w r q : ℕ) → r ≡ rewriteOf p (decodeOn p w) → q ≡ rewriteOf p (decodeOn p w) → r ≡ q
+c-rewrite-determined p w r q = one
 
 pub c-srec-read-determined : (m f : List ℕ) (r q : ℕ) (m′ n′ : List ℕ)
     → (r ≡ srecReadAnswer m f) × (m′ ≡ srecordMemory m f) → (q ≡ srecReadAnswer m f) × (n′ ≡ srecordMemory m f) → (r ≡ q) × (m′ ≡ n′)
 c-srec-read-determined m f r q m′ n′ = two
 
-pub c-srec-write-determined : (m out : List ℕ) (r q : ℕ) (o′ p′ : List ℕ)
-    → (r ≡ srecWriteAnswer m out) × (o′ ≡ srecordOut m out) → (q ≡ srecWriteAnswer m out) × (p′ ≡ srecordOut m out) → (r ≡ q) × (o′ ≡ p′)
-c-srec-write-determined m out r q o′ p′ = two
+pub c-srec-write-determined : (m out : List ℕ) (r q : ℕ) (o′ u′ : List ℕ)
+    → (r ≡ srecWriteAnswer m out) × (o′ ≡ srecordOut m out) → (q ≡ srecWriteAnswer m out) × (u′ ≡ srecordOut m out) → (r ≡ q) × (o′ ≡ u′)
+c-srec-write-determined m out r q o′ u′ = two
 
-pub c-check-determined : (f : List ℕ) (r q : ℕ) → r ≡ checkAnswer f → q ≡ checkAnswer f → r ≡ q
-c-check-determined f r q = one
+pub c-check-determined : (p : Profile) (f : List ℕ) (r q : ℕ) → r ≡ checkAnswer p f → q ≡ checkAnswer p f → r ≡ q
+c-check-determined p f r q = one
 
-module _ (s m : List ℕ) where
+module _ (p : Profile) (s m : List ℕ) where
   pub c-run-determined : (ev : List ℕ) (budget r q : ℕ) (s′ t′ m′ n′ : List ℕ)
-      → (r ≡ runAnswer s m ev budget) × ((s′ ≡ runState s m ev budget) × (m′ ≡ runLent s m ev budget)) → (q ≡ runAnswer s m ev budget) × ((t′ ≡ runState s m ev budget) × (n′ ≡ runLent s m ev budget))
+      → (r ≡ runAnswer p s m ev budget) × ((s′ ≡ runState p s m ev budget) × (m′ ≡ runLent p s m ev budget)) → (q ≡ runAnswer p s m ev budget) × ((t′ ≡ runState p s m ev budget) × (n′ ≡ runLent p s m ev budget))
       → (r ≡ q) × ((s′ ≡ t′) × (m′ ≡ n′))
   c-run-determined ev budget r q s′ t′ m′ n′ = three
 
   pub c-reach-determined : (ev : List ℕ) (budget r q : ℕ) (s′ t′ m′ n′ : List ℕ)
-      → (r ≡ reachAnswer s m ev budget) × ((s′ ≡ runState s m ev budget) × (m′ ≡ runLent s m ev budget)) → (q ≡ reachAnswer s m ev budget) × ((t′ ≡ runState s m ev budget) × (n′ ≡ runLent s m ev budget))
+      → (r ≡ reachAnswer p s m ev budget) × ((s′ ≡ runState p s m ev budget) × (m′ ≡ runLent p s m ev budget)) → (q ≡ reachAnswer p s m ev budget) × ((t′ ≡ runState p s m ev budget) × (n′ ≡ runLent p s m ev budget))
       → (r ≡ q) × ((s′ ≡ t′) × (m′ ≡ n′))
   c-reach-determined ev budget r q s′ t′ m′ n′ = three
 
   pub c-inside-determined : (ev : List ℕ) (budget r q : ℕ) (s′ t′ m′ n′ : List ℕ)
-      → (r ≡ insideAnswer s m ev budget) × ((s′ ≡ insideState s m ev budget) × (m′ ≡ insideLent s m ev budget)) → (q ≡ insideAnswer s m ev budget) × ((t′ ≡ insideState s m ev budget) × (n′ ≡ insideLent s m ev budget))
+      → (r ≡ insideAnswer p s m ev budget) × ((s′ ≡ insideState p s m ev budget) × (m′ ≡ insideLent p s m ev budget)) → (q ≡ insideAnswer p s m ev budget) × ((t′ ≡ insideState p s m ev budget) × (n′ ≡ insideLent p s m ev budget))
       → (r ≡ q) × ((s′ ≡ t′) × (m′ ≡ n′))
   c-inside-determined ev budget r q s′ t′ m′ n′ = three
 
   pub c-step-determined : (e r q : ℕ) (s′ t′ m′ n′ : List ℕ)
-      → (r ≡ stepAnswer s m e) × ((s′ ≡ stepState s m e) × (m′ ≡ stepLent s m e)) → (q ≡ stepAnswer s m e) × ((t′ ≡ stepState s m e) × (n′ ≡ stepLent s m e))
+      → (r ≡ stepAnswer p s m e) × ((s′ ≡ stepState p s m e) × (m′ ≡ stepLent p s m e)) → (q ≡ stepAnswer p s m e) × ((t′ ≡ stepState p s m e) × (n′ ≡ stepLent p s m e))
       → (r ≡ q) × ((s′ ≡ t′) × (m′ ≡ n′))
   c-step-determined e r q s′ t′ m′ n′ = three
 
-  pub c-tell-determined : (e r q : ℕ) → r ≡ tellAnswer s m e → q ≡ tellAnswer s m e → r ≡ q
+  pub c-tell-determined : (e r q : ℕ) → r ≡ tellAnswer p s m e → q ≡ tellAnswer p s m e → r ≡ q
   c-tell-determined e r q = one
 
-  pub c-access-determined : (e r q : ℕ) → r ≡ accessAnswer s m e → q ≡ accessAnswer s m e → r ≡ q
+  pub c-access-determined : (e r q : ℕ) → r ≡ accessAnswer p s m e → q ≡ accessAnswer p s m e → r ≡ q
   c-access-determined e r q = one
 
-  pub c-write-determined : (out : List ℕ) (r q : ℕ) (o′ p′ : List ℕ)
-      → (r ≡ writeAnswer s m out) × (o′ ≡ writeOut s m out) → (q ≡ writeAnswer s m out) × (p′ ≡ writeOut s m out) → (r ≡ q) × (o′ ≡ p′)
-  c-write-determined out r q o′ p′ = two
+  pub c-write-determined : (out : List ℕ) (r q : ℕ) (o′ u′ : List ℕ)
+      → (r ≡ writeAnswer p s m out) × (o′ ≡ writeOut p s m out) → (q ≡ writeAnswer p s m out) × (u′ ≡ writeOut p s m out) → (r ≡ q) × (o′ ≡ u′)
+  c-write-determined out r q o′ u′ = two

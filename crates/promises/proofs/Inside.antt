@@ -9,6 +9,7 @@ use lib.Dec.{eqb}
 use lib.ListN.{getD}
 use Rattle.word.proofs.Truth.{never}
 use Rattle.memory.specs.Access.{pick}
+use Rattle.insn.specs.declared.profile.Profile.{Profile}
 use Rattle.machine.specs.Step.{stepOf}
 use Rattle.machine.specs.Refusal.{acceptsOf}
 use Rattle.machine.specs.declared.state.State.{State}
@@ -42,31 +43,31 @@ turn-past true true rest f k h g = refl
 turn-past true false rest f k h g = g h
 
 -- with no reach the budget is not cut before the run's end
-run-same : (n i : ℕ) (ev : List ℕ) (s : State) (m : List ℕ) → pastOf n i ev s m ≡ false → runOf (insideOf n i ev s m) i ev s m ≡ runOf n i ev s m
+run-same : (p : Profile) (n i : ℕ) (ev : List ℕ) (s : State) (m : List ℕ) → pastOf p n i ev s m ≡ false → runOf p (insideOf p n i ev s m) i ev s m ≡ runOf p n i ev s m
 unfolding pastOf runOf insideOf
-run-same zero i ev s m h = refl
-run-same (suc n) i ev s m h =
-    let a = stepOf s m (getD ev i 0) in
-    turn-same (eqb (s .halt) 0) (a .past) (pastOf n (suc i) ev (a .st) (a .mem)) (λ k. runOf k (suc i) ev (a .st) (a .mem)) (insideOf n (suc i) ev (a .st) (a .mem)) _ _ h
-    (run-same n (suc i) ev (a .st) (a .mem))
+run-same p zero i ev s m h = refl
+run-same p (suc n) i ev s m h =
+    let a = stepOf p s m (getD ev i 0) in
+    turn-same (eqb (s .halt) 0) (a .past) (pastOf p n (suc i) ev (a .st) (a .mem)) (λ k. runOf p k (suc i) ev (a .st) (a .mem)) (insideOf p n (suc i) ev (a .st) (a .mem)) _ _ h
+    (run-same p n (suc i) ev (a .st) (a .mem))
 
 -- with one, every step of the cut budget is taken
-all-taken : (n i : ℕ) (ev : List ℕ) (s : State) (m : List ℕ) → pastOf n i ev s m ≡ true → runOf (insideOf n i ev s m) i ev s m .steps ≡ i + insideOf n i ev s m
+all-taken : (p : Profile) (n i : ℕ) (ev : List ℕ) (s : State) (m : List ℕ) → pastOf p n i ev s m ≡ true → runOf p (insideOf p n i ev s m) i ev s m .steps ≡ i + insideOf p n i ev s m
 unfolding pastOf runOf insideOf
-all-taken zero i ev s m h = never (sym h)
-all-taken (suc n) i ev s m h =
-    let a = stepOf s m (getD ev i 0) in
-    turn-steps (eqb (s .halt) 0) (a .past) (pastOf n (suc i) ev (a .st) (a .mem)) (λ k. runOf k (suc i) ev (a .st) (a .mem)) (insideOf n (suc i) ev (a .st) (a .mem)) _ i h refl
-    (all-taken n (suc i) ev (a .st) (a .mem))
+all-taken p zero i ev s m h = never (sym h)
+all-taken p (suc n) i ev s m h =
+    let a = stepOf p s m (getD ev i 0) in
+    turn-steps (eqb (s .halt) 0) (a .past) (pastOf p n (suc i) ev (a .st) (a .mem)) (λ k. runOf p k (suc i) ev (a .st) (a .mem)) (insideOf p n (suc i) ev (a .st) (a .mem)) _ i h refl
+    (all-taken p n (suc i) ev (a .st) (a .mem))
 
 -- the last of them reached
-last-reached : (n i : ℕ) (ev : List ℕ) (s : State) (m : List ℕ) → pastOf n i ev s m ≡ true → pastOf (insideOf n i ev s m) i ev s m ≡ true
+last-reached : (p : Profile) (n i : ℕ) (ev : List ℕ) (s : State) (m : List ℕ) → pastOf p n i ev s m ≡ true → pastOf p (insideOf p n i ev s m) i ev s m ≡ true
 unfolding pastOf insideOf
-last-reached zero i ev s m h = h
-last-reached (suc n) i ev s m h =
-    let a = stepOf s m (getD ev i 0) in
-    turn-past (eqb (s .halt) 0) (a .past) (pastOf n (suc i) ev (a .st) (a .mem)) (λ k. pastOf k (suc i) ev (a .st) (a .mem)) (insideOf n (suc i) ev (a .st) (a .mem)) h
-    (last-reached n (suc i) ev (a .st) (a .mem))
+last-reached p zero i ev s m h = h
+last-reached p (suc n) i ev s m h =
+    let a = stepOf p s m (getD ev i 0) in
+    turn-past (eqb (s .halt) 0) (a .past) (pastOf p n (suc i) ev (a .st) (a .mem)) (λ k. pastOf p k (suc i) ev (a .st) (a .mem)) (insideOf p n (suc i) ev (a .st) (a .mem)) h
+    (last-reached p n (suc i) ev (a .st) (a .mem))
 
 neither : (b : Bool) → pick b false false ≡ false
 neither true = refl
@@ -75,57 +76,57 @@ neither false = refl
 one-less : (k : ℕ) → suc k - 1 ≡ k
 one-less k = omega arith
 
-turn-before : (i : ℕ) (ev : List ℕ) (s : State) (m : List ℕ) (p : Bool) → stepOf s m (getD ev i 0) .past ≡ p → (k : ℕ)
-    → pastOf (k - 1) (suc i) ev (stepOf s m (getD ev i 0) .st) (stepOf s m (getD ev i 0) .mem) ≡ false → pastOf (pick p 0 k) i ev s m ≡ false
+turn-before : (p : Profile) (i : ℕ) (ev : List ℕ) (s : State) (m : List ℕ) (u : Bool) → stepOf p s m (getD ev i 0) .past ≡ u → (k : ℕ)
+    → pastOf p (k - 1) (suc i) ev (stepOf p s m (getD ev i 0) .st) (stepOf p s m (getD ev i 0) .mem) ≡ false → pastOf p (pick u 0 k) i ev s m ≡ false
 unfolding pastOf
-turn-before i ev s m true e k h = refl
-turn-before i ev s m false e zero h = refl
-turn-before i ev s m false e (suc k) h =
-    let a = stepOf s m (getD ev i 0) in
-    rw (e, ap (λ (n : ℕ). pastOf n (suc i) ev (a .st) (a .mem)) (sym (one-less k)) ∙ h) (neither (eqb (s .halt) 0))
+turn-before p i ev s m true e k h = refl
+turn-before p i ev s m false e zero h = refl
+turn-before p i ev s m false e (suc k) h =
+    let a = stepOf p s m (getD ev i 0) in
+    rw (e, ap (λ (n : ℕ). pastOf p n (suc i) ev (a .st) (a .mem)) (sym (one-less k)) ∙ h) (neither (eqb (s .halt) 0))
 
 -- and none before it
-none-before : (n i : ℕ) (ev : List ℕ) (s : State) (m : List ℕ) → pastOf (insideOf n i ev s m - 1) i ev s m ≡ false
+none-before : (p : Profile) (n i : ℕ) (ev : List ℕ) (s : State) (m : List ℕ) → pastOf p (insideOf p n i ev s m - 1) i ev s m ≡ false
 unfolding pastOf insideOf
-none-before zero i ev s m = refl
-none-before (suc n) i ev s m =
-    let a = stepOf s m (getD ev i 0) in
-    let k = insideOf n (suc i) ev (a .st) (a .mem) in
-    rw (one-less (pick (a .past) 0 k)) (turn-before i ev s m (a .past) refl k (none-before n (suc i) ev (a .st) (a .mem)))
+none-before p zero i ev s m = refl
+none-before p (suc n) i ev s m =
+    let a = stepOf p s m (getD ev i 0) in
+    let k = insideOf p n (suc i) ev (a .st) (a .mem) in
+    rw (one-less (pick (a .past) 0 k)) (turn-before p i ev s m (a .past) refl k (none-before p n (suc i) ev (a .st) (a .mem)))
 
-same-answer : (b p : Bool) (x y : Ran) (o : Outcome) (m : List ℕ) → (p ≡ false → x ≡ y) → pick b p false ≡ false
+same-answer : (b u : Bool) (x y : Ran) (o : Outcome) (m : List ℕ) → (u ≡ false → x ≡ y) → pick b u false ≡ false
     → (pick b (accepted x) o ≡ pick b (accepted y) o) × (pick b (x .mem) m ≡ pick b (y .mem) m)
-same-answer true p x y o m g h = (ap accepted (g h), ap (λ (r : Ran). r .mem) (g h))
-same-answer false p x y o m g h = (refl, refl)
+same-answer true u x y o m g h = (ap accepted (g h), ap (λ (r : Ran). r .mem) (g h))
+same-answer false u x y o m g h = (refl, refl)
 
-both-true : (b p : Bool) → pick b p false ≡ true → (b ≡ true) × (p ≡ true)
-both-true true p h = (refl, h)
-both-true false p h = never (sym h)
+both-true : (b u : Bool) → pick b u false ≡ true → (b ≡ true) × (u ≡ true)
+both-true true u h = (refl, h)
+both-true false u h = never (sym h)
 
-module _ (s : State) (m ev : List ℕ) (budget : ℕ) where
+module _ (p : Profile) (s : State) (m ev : List ℕ) (budget : ℕ) where
   -- not reached: outcome and memory are the plain run's with the whole budget
-  pub inside-is-run : runPast s m ev budget ≡ false → (insideOutcome s m ev budget ≡ runOutcome s m ev budget) × (insideMemory s m ev budget ≡ runMemory s m ev budget)
+  pub inside-is-run : runPast p s m ev budget ≡ false → (insideOutcome p s m ev budget ≡ runOutcome p s m ev budget) × (insideMemory p s m ev budget ≡ runMemory p s m ev budget)
   unfolding runPast insideOutcome insideMemory runOutcome runMemory
   inside-is-run h =
-      let r = runRefusal s m ev budget in
-      same-answer (acceptsOf r) (pastOf budget 0 ev s m) (runOf (insideOf budget 0 ev s m) 0 ev s m) (runOf budget 0 ev s m) (refusedWith s r) m (run-same budget 0 ev s m) h
+      let r = runRefusal p s m ev budget in
+      same-answer (acceptsOf r) (pastOf p budget 0 ev s m) (runOf p (insideOf p budget 0 ev s m) 0 ev s m) (runOf p budget 0 ev s m) (refusedWith s r) m (run-same p budget 0 ev s m) h
 
   -- reached: they are those of the run of as many steps as it took, the last of which reached and none before
-  pub inside-ends-first : runPast s m ev budget ≡ true
-      → (let n = insideOutcome s m ev budget .steps in
-      (insideOutcome s m ev budget ≡ accepted (runOf n 0 ev s m)) × ((insideMemory s m ev budget ≡ runOf n 0 ev s m .mem) × ((pastOf (n - 1) 0 ev s m ≡ false) × (pastOf n 0 ev s m ≡ true))))
+  pub inside-ends-first : runPast p s m ev budget ≡ true
+      → (let n = insideOutcome p s m ev budget .steps in
+      (insideOutcome p s m ev budget ≡ accepted (runOf p n 0 ev s m)) × ((insideMemory p s m ev budget ≡ runOf p n 0 ev s m .mem) × ((pastOf p (n - 1) 0 ev s m ≡ false) × (pastOf p n 0 ev s m ≡ true))))
   unfolding runPast insideOutcome insideMemory
   inside-ends-first h =
-      let t = both-true (acceptsOf (runRefusal s m ev budget)) (pastOf budget 0 ev s m) h in
-      let c = insideOf budget 0 ev s m in
-      let q : runOf c 0 ev s m .steps ≡ c = all-taken budget 0 ev s m (t .1) ∙ zero-add c in
+      let t = both-true (acceptsOf (runRefusal p s m ev budget)) (pastOf p budget 0 ev s m) h in
+      let c = insideOf p budget 0 ev s m in
+      let q : runOf p c 0 ev s m .steps ≡ c = all-taken p budget 0 ev s m (t .1) ∙ zero-add c in
       rw (t .0) (
-        ap (λ (k : ℕ). accepted (runOf k 0 ev s m)) (sym q),
+        ap (λ (k : ℕ). accepted (runOf p k 0 ev s m)) (sym q),
         (
-          ap (λ (k : ℕ). runOf k 0 ev s m .mem) (sym q),
+          ap (λ (k : ℕ). runOf p k 0 ev s m .mem) (sym q),
           (
-            ap (λ (k : ℕ). pastOf (k - 1) 0 ev s m) q ∙ none-before budget 0 ev s m,
-            ap (λ (k : ℕ). pastOf k 0 ev s m) q ∙ last-reached budget 0 ev s m (t .1),
+            ap (λ (k : ℕ). pastOf p (k - 1) 0 ev s m) q ∙ none-before p budget 0 ev s m,
+            ap (λ (k : ℕ). pastOf p k 0 ev s m) q ∙ last-reached p budget 0 ev s m (t .1),
           ),
         ),
       )

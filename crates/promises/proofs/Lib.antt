@@ -13,3 +13,4 @@ pub mod Worked
 pub mod Inside
 pub mod Lines
 pub mod Files
+pub mod Same

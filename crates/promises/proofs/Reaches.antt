@@ -20,11 +20,12 @@ use Rattle.memory.specs.declared.load.Loaded.{Loaded}
 use Rattle.word.proofs.Truth.{never}
 use Rattle.memory.proofs.Laws.{served-inside, fetched-inside}
 use Rattle.memory.proofs.Grow.{bytes-length, double-length}
-use Rattle.insn.specs.Read.{decodeOf}
+use Rattle.insn.specs.Read.{decodeOn}
 use Rattle.insn.specs.declared.instr.Instr.{Instr}
 use Rattle.insn.specs.declared.instr.Decoded.{Decoded}
 use Rattle.insn.specs.declared.instr.LoadStore.{LoadStore}
 use Rattle.insn.specs.declared.instr.CacheOp.{CacheOp}
+use Rattle.insn.specs.declared.profile.Profile.{Profile}
 use Rattle.machine.specs.State.{gprOf, vdrOf}
 use Rattle.machine.specs.After.{After, plain}
 use Rattle.machine.specs.LoadStore.{offsetEa, indexedEa, loadAt, storeAt, loadDoubleAt, storeDoubleAt, loadStoreOf}
@@ -52,8 +53,8 @@ fetch-inside : (m : List ℕ) (a : ℕ) → Inside (length m) (fetchedAt m a)
 fetch-inside m a = touched-inside (length m) a 4 (fetchAccessOf (length m) a) (fetched-inside (length m) a)
 
 both-inside : (n : ℕ) (xs ys : List Span) → Inside n xs → Inside n ys → Inside n (xs ++ ys)
-both-inside n [] ys p q = q
-both-inside n (x ∷ xs) ys p q = (p .0, both-inside n xs ys (p .1) q)
+both-inside n [] ys h k = k
+both-inside n (x ∷ xs) ys h k = (h .0, both-inside n xs ys (h .1) k)
 
 use-inside : (m : List ℕ) (u : Use) → Inside (length m) (readBy m u) × Inside (length m) (writtenBy m u)
 use-inside m Use.Idle = (tt, tt)
@@ -61,23 +62,23 @@ use-inside m (Use.Reads a n) = (at-inside m a n, tt)
 use-inside m (Use.Writes a n) = (tt, at-inside m a n)
 
 picked-inside : (n : ℕ) (b : Bool) (xs : List Span) → Inside n xs → Inside n (pick b xs [])
-picked-inside n true xs p = p
-picked-inside n false xs p = tt
+picked-inside n true xs h = h
+picked-inside n false xs h = tt
 
 -- no access goes beyond the memory lent
-pub reads-inside : (s : State) (m : List ℕ) (e : ℕ) → Inside (length m) (readsOf s m e)
+pub reads-inside : (p : Profile) (s : State) (m : List ℕ) (e : ℕ) → Inside (length m) (readsOf p s m e)
 unfolding readsOf runningReads
-reads-inside s m e =
+reads-inside p s m e =
     let t = tickedOf s e in
-    let u = fetchedUse t (fetchOf m (t .iar)) in
+    let u = fetchedUse p t (fetchOf m (t .iar)) in
     picked-inside (length m) (executes s e) _
     (both-inside (length m) (fetchedAt m (t .iar)) (readBy m u) (fetch-inside m (t .iar)) (use-inside m u .0))
 
-pub writes-inside : (s : State) (m : List ℕ) (e : ℕ) → Inside (length m) (writesOf s m e)
+pub writes-inside : (p : Profile) (s : State) (m : List ℕ) (e : ℕ) → Inside (length m) (writesOf p s m e)
 unfolding writesOf runningWrites
-writes-inside s m e =
+writes-inside p s m e =
     let t = tickedOf s e in
-    picked-inside (length m) (executes s e) _ (use-inside m (fetchedUse t (fetchOf m (t .iar))) .1)
+    picked-inside (length m) (executes s e) _ (use-inside m (fetchedUse p t (fetchOf m (t .iar))) .1)
 
 -- ---- no other byte is changed
 
@@ -92,19 +93,19 @@ written-other m a k bs Access.Served h = sets-other bs m a k (h .0)
 written-other m a k bs Access.Unaligned h = refl
 written-other m a k bs Access.Outside h = refl
 
-module _ (s : State) (m : List ℕ) (k : ℕ) where
-  store-other : (w : Width) (rs ea : ℕ) (u : Bool) (ra : ℕ) → Misses k (touchedAt m ea (bytes w)) → getD (storeAt s m w rs ea u ra .mem) k 0 ≡ getD m k 0
+module _ (p : Profile) (s : State) (m : List ℕ) (k : ℕ) where
+  store-other : (w : Width) (rs ea : ℕ) (u : Bool) (ra : ℕ) → Misses k (touchedAt m ea (bytes w)) → getD (storeAt p s m w rs ea u ra .mem) k 0 ≡ getD m k 0
   unfolding storeAt storedOf
   store-other w rs ea u ra h =
       let e : length (bytesOf w (gprOf s rs)) ≡ bytes w = bytes-length w (gprOf s rs) in
       written-other m ea k (bytesOf w (gprOf s rs)) (accessOf (length m) ea (bytes w)) (rw e h)
 
-  store-double-other : (ds ea : ℕ) (u : Bool) (ra : ℕ) → Misses k (touchedAt m ea 8) → getD (storeDoubleAt s m ds ea u ra .mem) k 0 ≡ getD m k 0
+  store-double-other : (ds ea : ℕ) (u : Bool) (ra : ℕ) → Misses k (touchedAt m ea 8) → getD (storeDoubleAt p s m ds ea u ra .mem) k 0 ≡ getD m k 0
   unfolding storeDoubleAt storedDoubleOf
   store-double-other ds ea u ra h =
       written-other m ea k (doubleBytes (vdrOf s ds)) (accessOf (length m) ea 8) (rw (double-length (vdrOf s ds)) h)
 
-  load-store-other : (i : LoadStore) → Misses k (writtenBy m (loadStoreUse s i)) → getD (loadStoreOf s m i .mem) k 0 ≡ getD m k 0
+  load-store-other : (i : LoadStore) → Misses k (writtenBy m (loadStoreUse s i)) → getD (loadStoreOf p s m i .mem) k 0 ≡ getD m k 0
   unfolding loadStoreOf loadAt loadDoubleAt
   load-store-other (LoadStore.Load w u rt ra d) h = refl
   load-store-other (LoadStore.LoadIndexed w rt ra rb) h = refl
@@ -113,14 +114,14 @@ module _ (s : State) (m : List ℕ) (k : ℕ) where
   load-store-other (LoadStore.LoadDouble u dt ra d) h = refl
   load-store-other (LoadStore.StoreDouble u ds ra d) h = store-double-other ds (offsetEa s ra d) u ra h
 
-  cache-other : (op : CacheOp) (ra rb : ℕ) → Misses k (writtenBy m (cacheUse s op ra rb)) → getD (cacheOf s m op ra rb .mem) k 0 ≡ getD m k 0
+  cache-other : (op : CacheOp) (ra rb : ℕ) → Misses k (writtenBy m (cacheUse s op ra rb)) → getD (cacheOf p s m op ra rb .mem) k 0 ≡ getD m k 0
   unfolding cacheOf clearAt clearedOf
   cache-other CacheOp.Dcbf ra rb h = refl
   cache-other CacheOp.Dcbi ra rb h = refl
   cache-other CacheOp.Dcbt ra rb h = refl
   cache-other CacheOp.Dcbz ra rb h = written-other m (blockAt (indexedEa s ra rb)) k (replicate 32 0) (accessOf (length m) (blockAt (indexedEa s ra rb)) 32) h
 
-  execute-other : (w : ℕ) (i : Instr) → Misses k (writtenBy m (executeUse s i)) → getD (executeOf s m w i .mem) k 0 ≡ getD m k 0
+  execute-other : (w : ℕ) (i : Instr) → Misses k (writtenBy m (executeUse s i)) → getD (executeOf p s m w i .mem) k 0 ≡ getD m k 0
   unfolding executeOf
   execute-other w (Instr.Arithmetic i) h = refl
   execute-other w (Instr.Logical i) h = refl
@@ -132,75 +133,75 @@ module _ (s : State) (m : List ℕ) (k : ℕ) where
   execute-other w (Instr.System i) h = refl
   execute-other w (Instr.Cache op hint ra rb) h = cache-other op ra rb h
 
-  decoded-other : (w : ℕ) (d : Decoded) → Misses k (writtenBy m (decodedUse s d)) → getD (decodedOf s m w d .mem) k 0 ≡ getD m k 0
+  decoded-other : (w : ℕ) (d : Decoded) → Misses k (writtenBy m (decodedUse s d)) → getD (decodedOf p s m w d .mem) k 0 ≡ getD m k 0
   decoded-other w (Decoded.Insn i) h = execute-other w i h
   decoded-other w Decoded.Illegal h = refl
 
-  fetched-other : (l : Loaded) → Misses k (writtenBy m (fetchedUse s l)) → getD (fetchedOf s m l .mem) k 0 ≡ getD m k 0
-  fetched-other (Loaded.Value w) h = decoded-other w (decodeOf w) h
+  fetched-other : (l : Loaded) → Misses k (writtenBy m (fetchedUse p s l)) → getD (fetchedOf p s m l .mem) k 0 ≡ getD m k 0
+  fetched-other (Loaded.Value w) h = decoded-other w (decodeOn p w) h
   fetched-other Loaded.Unaligned h = refl
   fetched-other Loaded.Outside h = refl
 
 -- ---- whether a step gets to line 6
 
 -- a step by its four tests
-abbrev lines : Bool → Bool → Pending → Bool → State → State → List ℕ → After
-lines halted acts (Pending.Take v) waits s t m = pick halted (pick acts (plain (actedOf t) m) (plain (enteredOf t v) m)) (plain s m)
-lines halted acts Pending.Nothing waits s t m = pick halted (pick acts (plain (actedOf t) m) (pick waits (plain t m) (runningOf t m))) (plain s m)
+abbrev pub lines : Profile → Bool → Bool → Pending → Bool → State → State → List ℕ → After
+lines p halted acts (Pending.Take v) waits s t m = pick halted (pick acts (plain (actedOf t) m) (plain (enteredOf p t v) m)) (plain s m)
+lines p halted acts Pending.Nothing waits s t m = pick halted (pick acts (plain (actedOf t) m) (pick waits (plain t m) (runningOf p t m))) (plain s m)
 
-runs-cases : (h a : Bool) (p : Pending) (w : Bool) (s t : State) (m : List ℕ) → (h && not a && free p && not w) ≡ true → lines h a p w s t m ≡ runningOf t m
-runs-cases true true (Pending.Take v) w s t m e = never (sym e)
-runs-cases true true Pending.Nothing w s t m e = never (sym e)
-runs-cases true false (Pending.Take v) w s t m e = never (sym e)
-runs-cases true false Pending.Nothing true s t m e = never (sym e)
-runs-cases true false Pending.Nothing false s t m e = refl
-runs-cases false a (Pending.Take v) w s t m e = never (sym e)
-runs-cases false a Pending.Nothing w s t m e = never (sym e)
+runs-cases : (p : Profile) (h a : Bool) (q : Pending) (w : Bool) (s t : State) (m : List ℕ) → (h && not a && free q && not w) ≡ true → lines p h a q w s t m ≡ runningOf p t m
+runs-cases p true true (Pending.Take v) w s t m e = never (sym e)
+runs-cases p true true Pending.Nothing w s t m e = never (sym e)
+runs-cases p true false (Pending.Take v) w s t m e = never (sym e)
+runs-cases p true false Pending.Nothing true s t m e = never (sym e)
+runs-cases p true false Pending.Nothing false s t m e = refl
+runs-cases p false a (Pending.Take v) w s t m e = never (sym e)
+runs-cases p false a Pending.Nothing w s t m e = never (sym e)
 
 -- what a step leaves that does not get there, whatever the memory
 abbrev Rests : (List ℕ → After) → Type 0
 Rests f = (m n : List ℕ) → (f m .mem ≡ m) × ((f n .st ≡ f m .st) × (f n .past ≡ f m .past))
 
-rests-cases : (h a : Bool) (p : Pending) (w : Bool) (s t : State) → (h && not a && free p && not w) ≡ false → Rests (lines h a p w s t)
-rests-cases true true (Pending.Take v) w s t e m n = (refl, (refl, refl))
-rests-cases true true Pending.Nothing w s t e m n = (refl, (refl, refl))
-rests-cases true false (Pending.Take v) w s t e m n = (refl, (refl, refl))
-rests-cases true false Pending.Nothing true s t e m n = (refl, (refl, refl))
-rests-cases true false Pending.Nothing false s t e m n = never e
-rests-cases false a (Pending.Take v) w s t e m n = (refl, (refl, refl))
-rests-cases false a Pending.Nothing w s t e m n = (refl, (refl, refl))
+rests-cases : (p : Profile) (h a : Bool) (q : Pending) (w : Bool) (s t : State) → (h && not a && free q && not w) ≡ false → Rests (lines p h a q w s t)
+rests-cases p true true (Pending.Take v) w s t e m n = (refl, (refl, refl))
+rests-cases p true true Pending.Nothing w s t e m n = (refl, (refl, refl))
+rests-cases p true false (Pending.Take v) w s t e m n = (refl, (refl, refl))
+rests-cases p true false Pending.Nothing true s t e m n = (refl, (refl, refl))
+rests-cases p true false Pending.Nothing false s t e m n = never e
+rests-cases p false a (Pending.Take v) w s t e m n = (refl, (refl, refl))
+rests-cases p false a Pending.Nothing w s t e m n = (refl, (refl, refl))
 
-module _ (s : State) (e : ℕ) where
-  interruptible-lines : (a h : Bool) (p : Pending) (m : List ℕ)
-      → pick h (pick a (plain (actedOf (tickedOf s e)) m) (interruptibleOf (tickedOf s e) m p)) (plain s m) ≡ lines h a p (bitAt (tickedOf s e .msr) 13) s (tickedOf s e) m
+module _ (p : Profile) (s : State) (e : ℕ) where
+  interruptible-lines : (a h : Bool) (q : Pending) (m : List ℕ)
+      → pick h (pick a (plain (actedOf (tickedOf s e)) m) (interruptibleOf p (tickedOf s e) m q)) (plain s m) ≡ lines p h a q (bitAt (tickedOf s e .msr) 13) s (tickedOf s e) m
   unfolding awakeOf
   interruptible-lines a h (Pending.Take v) m = refl
   interruptible-lines a h Pending.Nothing m = refl
 
-  step-lines : (m : List ℕ) → stepOf s m e ≡ lines (eqb (s .halt) 0) (actsOf s e) (highestOf (tickedOf s e) e) (bitAt (tickedOf s e .msr) 13) s (tickedOf s e) m
+  pub step-lines : (m : List ℕ) → stepOf p s m e ≡ lines p (eqb (s .halt) 0) (actsOf s e) (highestOf (tickedOf s e) e) (bitAt (tickedOf s e .msr) 13) s (tickedOf s e) m
   unfolding stepOf countedOf
   step-lines m = interruptible-lines (actsOf s e) (eqb (s .halt) 0) (highestOf (tickedOf s e) e) m
 
-  step-runs : executes s e ≡ true → (m : List ℕ) → stepOf s m e ≡ runningOf (tickedOf s e) m
+  step-runs : executes s e ≡ true → (m : List ℕ) → stepOf p s m e ≡ runningOf p (tickedOf s e) m
   unfolding executes
-  step-runs h m = step-lines m ∙ runs-cases (eqb (s .halt) 0) (actsOf s e) (highestOf (tickedOf s e) e) (bitAt (tickedOf s e .msr) 13) s (tickedOf s e) m h
+  step-runs h m = step-lines m ∙ runs-cases p (eqb (s .halt) 0) (actsOf s e) (highestOf (tickedOf s e) e) (bitAt (tickedOf s e .msr) 13) s (tickedOf s e) m h
 
-  step-rests : executes s e ≡ false → Rests (λ m. stepOf s m e)
+  step-rests : executes s e ≡ false → Rests (λ m. stepOf p s m e)
   unfolding executes
   step-rests h m n =
-      let r = rests-cases (eqb (s .halt) 0) (actsOf s e) (highestOf (tickedOf s e) e) (bitAt (tickedOf s e .msr) 13) s (tickedOf s e) h m n in
+      let r = rests-cases p (eqb (s .halt) 0) (actsOf s e) (highestOf (tickedOf s e) e) (bitAt (tickedOf s e .msr) 13) s (tickedOf s e) h m n in
       rw (step-lines m, step-lines n) r
 
-other-cases : (s : State) (m : List ℕ) (e k : ℕ) (b : Bool) → executes s e ≡ b → Misses k (pick b (runningWrites (tickedOf s e) m) [])
-    → getD (stepOf s m e .mem) k 0 ≡ getD m k 0
+other-cases : (p : Profile) (s : State) (m : List ℕ) (e k : ℕ) (b : Bool) → executes s e ≡ b → Misses k (pick b (runningWrites p (tickedOf s e) m) [])
+    → getD (stepOf p s m e .mem) k 0 ≡ getD m k 0
 unfolding runningWrites runningOf
-other-cases s m e k true r h = rw (step-runs s e r m) (fetched-other (tickedOf s e) m k (fetchOf m (tickedOf s e .iar)) h)
-other-cases s m e k false r h = rw (step-rests s e r m m .0)
+other-cases p s m e k true r h = rw (step-runs p s e r m) (fetched-other p (tickedOf s e) m k (fetchOf m (tickedOf s e .iar)) h)
+other-cases p s m e k false r h = rw (step-rests p s e r m m .0)
 
 -- a byte that the step does not write stays as it was
-pub writes-only : (s : State) (m : List ℕ) (e k : ℕ) → Misses k (writesOf s m e) → getD (stepOf s m e .mem) k 0 ≡ getD m k 0
+pub writes-only : (p : Profile) (s : State) (m : List ℕ) (e k : ℕ) → Misses k (writesOf p s m e) → getD (stepOf p s m e .mem) k 0 ≡ getD m k 0
 unfolding writesOf
-writes-only s m e k h = other-cases s m e k (executes s e) refl h
+writes-only p s m e k h = other-cases p s m e k (executes s e) refl h
 
 -- ---- no other byte is looked at
 
@@ -249,7 +250,7 @@ written-same m n a bs Access.Served l e =
 written-same m n a bs Access.Unaligned l e = tt
 written-same m n a bs Access.Outside l e = tt
 
-module _ (m n : List ℕ) (l : length n ≡ length m) where
+module _ (p : Profile) (m n : List ℕ) (l : length n ≡ length m) where
   load-same : (a : ℕ) (w : Width) → Agree m n (touchedAt m a (bytes w)) → loadOf n a w ≡ loadOf m a w
   unfolding loadOf
   load-same a w h = rw l (loaded-same w m n a (accessOf (length m) a (bytes w)) h)
@@ -267,11 +268,11 @@ module _ (m n : List ℕ) (l : length n ≡ length m) where
   plain-same t = record { st = refl; past = refl; places = refl; written = tt }
 
   module _ (s : State) where
-    load-at-same : (w : Width) (rt ea : ℕ) (u : Bool) (ra : ℕ) → Agree m n (touchedAt m ea (bytes w)) → Alike [] [] (loadAt s m w rt ea u ra) (loadAt s n w rt ea u ra)
+    load-at-same : (w : Width) (rt ea : ℕ) (u : Bool) (ra : ℕ) → Agree m n (touchedAt m ea (bytes w)) → Alike [] [] (loadAt p s m w rt ea u ra) (loadAt p s n w rt ea u ra)
     unfolding loadAt
     load-at-same w rt ea u ra h = record { st = rw (load-same ea w h); past = rw l; places = refl; written = tt }
 
-    store-at-same : (w : Width) (rs ea : ℕ) (u : Bool) (ra : ℕ) → Alike (touchedAt m ea (bytes w)) (touchedAt n ea (bytes w)) (storeAt s m w rs ea u ra) (storeAt s n w rs ea u ra)
+    store-at-same : (w : Width) (rs ea : ℕ) (u : Bool) (ra : ℕ) → Alike (touchedAt m ea (bytes w)) (touchedAt n ea (bytes w)) (storeAt p s m w rs ea u ra) (storeAt p s n w rs ea u ra)
     unfolding storeAt storedOf
     store-at-same w rs ea u ra =
         let bs = bytesOf w (gprOf s rs) in
@@ -279,11 +280,11 @@ module _ (m n : List ℕ) (l : length n ≡ length m) where
         let b : Agree (written (accessOf (length m) ea (bytes w)) m ea bs) (written (accessOf (length m) ea (bytes w)) n ea bs) (touchedAt m ea (bytes w)) = rw e at (written-same m n ea bs (accessOf (length m) ea (length bs)) l refl) in
         record { st = rw l; past = rw l; places = rw l; written = rw l b }
 
-    load-double-at-same : (dt ea : ℕ) (u : Bool) (ra : ℕ) → Agree m n (touchedAt m ea 8) → Alike [] [] (loadDoubleAt s m dt ea u ra) (loadDoubleAt s n dt ea u ra)
+    load-double-at-same : (dt ea : ℕ) (u : Bool) (ra : ℕ) → Agree m n (touchedAt m ea 8) → Alike [] [] (loadDoubleAt p s m dt ea u ra) (loadDoubleAt p s n dt ea u ra)
     unfolding loadDoubleAt
     load-double-at-same dt ea u ra h = record { st = rw (load-double-same ea h); past = rw l; places = refl; written = tt }
 
-    store-double-at-same : (ds ea : ℕ) (u : Bool) (ra : ℕ) → Alike (touchedAt m ea 8) (touchedAt n ea 8) (storeDoubleAt s m ds ea u ra) (storeDoubleAt s n ds ea u ra)
+    store-double-at-same : (ds ea : ℕ) (u : Bool) (ra : ℕ) → Alike (touchedAt m ea 8) (touchedAt n ea 8) (storeDoubleAt p s m ds ea u ra) (storeDoubleAt p s n ds ea u ra)
     unfolding storeDoubleAt storedDoubleOf
     store-double-at-same ds ea u ra =
         let bs = doubleBytes (vdrOf s ds) in
@@ -291,13 +292,13 @@ module _ (m n : List ℕ) (l : length n ≡ length m) where
         let b : Agree (written (accessOf (length m) ea 8) m ea bs) (written (accessOf (length m) ea 8) n ea bs) (touchedAt m ea 8) = rw e at (written-same m n ea bs (accessOf (length m) ea (length bs)) l refl) in
         record { st = rw l; past = rw l; places = rw l; written = rw l b }
 
-    clear-at-same : (ea : ℕ) → Alike (touchedAt m (blockAt ea) 32) (touchedAt n (blockAt ea) 32) (clearAt s m ea) (clearAt s n ea)
+    clear-at-same : (ea : ℕ) → Alike (touchedAt m (blockAt ea) 32) (touchedAt n (blockAt ea) 32) (clearAt p s m ea) (clearAt p s n ea)
     unfolding clearAt clearedOf
     clear-at-same ea =
         let b = written-same m n (blockAt ea) (replicate 32 0) (accessOf (length m) (blockAt ea) 32) l refl in
         record { st = rw l; past = rw l; places = rw l; written = rw l b }
 
-    load-store-same : (i : LoadStore) → Agree m n (readBy m (loadStoreUse s i)) → Alike (writtenBy m (loadStoreUse s i)) (writtenBy n (loadStoreUse s i)) (loadStoreOf s m i) (loadStoreOf s n i)
+    load-store-same : (i : LoadStore) → Agree m n (readBy m (loadStoreUse s i)) → Alike (writtenBy m (loadStoreUse s i)) (writtenBy n (loadStoreUse s i)) (loadStoreOf p s m i) (loadStoreOf p s n i)
     unfolding loadStoreOf
     load-store-same (LoadStore.Load w u rt ra d) h = load-at-same w rt (offsetEa s ra d) u ra h
     load-store-same (LoadStore.LoadIndexed w rt ra rb) h = load-at-same w rt (indexedEa s ra rb) false ra h
@@ -306,14 +307,14 @@ module _ (m n : List ℕ) (l : length n ≡ length m) where
     load-store-same (LoadStore.LoadDouble u dt ra d) h = load-double-at-same dt (offsetEa s ra d) u ra h
     load-store-same (LoadStore.StoreDouble u ds ra d) h = store-double-at-same ds (offsetEa s ra d) u ra
 
-    cache-same : (op : CacheOp) (ra rb : ℕ) → Alike (writtenBy m (cacheUse s op ra rb)) (writtenBy n (cacheUse s op ra rb)) (cacheOf s m op ra rb) (cacheOf s n op ra rb)
+    cache-same : (op : CacheOp) (ra rb : ℕ) → Alike (writtenBy m (cacheUse s op ra rb)) (writtenBy n (cacheUse s op ra rb)) (cacheOf p s m op ra rb) (cacheOf p s n op ra rb)
     unfolding cacheOf
     cache-same CacheOp.Dcbf ra rb = plain-same _
     cache-same CacheOp.Dcbi ra rb = plain-same _
     cache-same CacheOp.Dcbt ra rb = plain-same _
     cache-same CacheOp.Dcbz ra rb = clear-at-same (indexedEa s ra rb)
 
-    execute-same : (w : ℕ) (i : Instr) → Agree m n (readBy m (executeUse s i)) → Alike (writtenBy m (executeUse s i)) (writtenBy n (executeUse s i)) (executeOf s m w i) (executeOf s n w i)
+    execute-same : (w : ℕ) (i : Instr) → Agree m n (readBy m (executeUse s i)) → Alike (writtenBy m (executeUse s i)) (writtenBy n (executeUse s i)) (executeOf p s m w i) (executeOf p s n w i)
     unfolding executeOf
     execute-same w (Instr.Arithmetic i) h = plain-same _
     execute-same w (Instr.Logical i) h = plain-same _
@@ -325,31 +326,31 @@ module _ (m n : List ℕ) (l : length n ≡ length m) where
     execute-same w (Instr.System i) h = plain-same _
     execute-same w (Instr.Cache op hint ra rb) h = cache-same op ra rb
 
-    decoded-same : (w : ℕ) (d : Decoded) → Agree m n (readBy m (decodedUse s d)) → Alike (writtenBy m (decodedUse s d)) (writtenBy n (decodedUse s d)) (decodedOf s m w d) (decodedOf s n w d)
+    decoded-same : (w : ℕ) (d : Decoded) → Agree m n (readBy m (decodedUse s d)) → Alike (writtenBy m (decodedUse s d)) (writtenBy n (decodedUse s d)) (decodedOf p s m w d) (decodedOf p s n w d)
     decoded-same w (Decoded.Insn i) h = execute-same w i h
     decoded-same w Decoded.Illegal h = plain-same _
 
-    fetched-same : (f : Loaded) → Agree m n (readBy m (fetchedUse s f)) → Alike (writtenBy m (fetchedUse s f)) (writtenBy n (fetchedUse s f)) (fetchedOf s m f) (fetchedOf s n f)
-    fetched-same (Loaded.Value w) h = decoded-same w (decodeOf w) h
+    fetched-same : (f : Loaded) → Agree m n (readBy m (fetchedUse p s f)) → Alike (writtenBy m (fetchedUse p s f)) (writtenBy n (fetchedUse p s f)) (fetchedOf p s m f) (fetchedOf p s n f)
+    fetched-same (Loaded.Value w) h = decoded-same w (decodeOn p w) h
     fetched-same Loaded.Unaligned h = plain-same _
     fetched-same Loaded.Outside h = record { st = refl; past = refl; places = refl; written = tt }
 
-    running-same : Agree m n (runningReads s m) → Alike (runningWrites s m) (runningWrites s n) (runningOf s m) (runningOf s n)
+    running-same : Agree m n (runningReads p s m) → Alike (runningWrites p s m) (runningWrites p s n) (runningOf p s m) (runningOf p s n)
     unfolding runningReads runningWrites runningOf
     running-same h =
-        let both = agree-split m n (fetchedAt m (s .iar)) (readBy m (fetchedUse s (fetchOf m (s .iar)))) h in
+        let both = agree-split m n (fetchedAt m (s .iar)) (readBy m (fetchedUse p s (fetchOf m (s .iar)))) h in
         rw (fetch-same (s .iar) (both .0)) (fetched-same (fetchOf m (s .iar)) (both .1))
 
-same-cases : (m n : List ℕ) → length n ≡ length m → (s : State) (e : ℕ) (b : Bool) → executes s e ≡ b
-    → Agree m n (pick b (runningReads (tickedOf s e) m) [])
-    → Alike (pick b (runningWrites (tickedOf s e) m) []) (pick b (runningWrites (tickedOf s e) n) []) (stepOf s m e) (stepOf s n e)
-same-cases m n l s e true r h = rw (step-runs s e r m, step-runs s e r n) (running-same m n l (tickedOf s e) h)
-same-cases m n l s e false r h =
-    let q = step-rests s e r m n in
+same-cases : (p : Profile) (m n : List ℕ) → length n ≡ length m → (s : State) (e : ℕ) (b : Bool) → executes s e ≡ b
+    → Agree m n (pick b (runningReads p (tickedOf s e) m) [])
+    → Alike (pick b (runningWrites p (tickedOf s e) m) []) (pick b (runningWrites p (tickedOf s e) n) []) (stepOf p s m e) (stepOf p s n e)
+same-cases p m n l s e true r h = rw (step-runs p s e r m, step-runs p s e r n) (running-same p m n l (tickedOf s e) h)
+same-cases p m n l s e false r h =
+    let q = step-rests p s e r m n in
     record { st = q .1 .0; past = q .1 .1; places = refl; written = tt }
 
 -- another memory of that length with the same bytes there: the same state, and the same bytes written at the same places
-pub reads-only : (s : State) (m n : List ℕ) (e : ℕ) → length n ≡ length m → Agree m n (readsOf s m e)
-    → Alike (writesOf s m e) (writesOf s n e) (stepOf s m e) (stepOf s n e)
+pub reads-only : (p : Profile) (s : State) (m n : List ℕ) (e : ℕ) → length n ≡ length m → Agree m n (readsOf p s m e)
+    → Alike (writesOf p s m e) (writesOf p s n e) (stepOf p s m e) (stepOf p s n e)
 unfolding readsOf writesOf
-reads-only s m n e l h = same-cases m n l s e (executes s e) refl h
+reads-only p s m n e l h = same-cases p m n l s e (executes s e) refl h

@@ -11,6 +11,7 @@ use Rattle.word.specs.Bits.{bitAt}
 use Rattle.memory.specs.Access.{pick, accessOf}
 use Rattle.memory.specs.Load.{fetchOf}
 use Rattle.memory.specs.declared.access.Access.{Access}
+use Rattle.insn.specs.declared.profile.Profile.{Profile}
 use Rattle.machine.specs.After.{plain}
 use Rattle.machine.specs.Timer.{externalIn, tickedOf, actsOf, actedOf}
 use Rattle.machine.specs.Step.{runningOf, awakeOf, highestOf, interruptibleOf, countedOf, stepOf}
@@ -30,33 +31,33 @@ use Rattle.promises.proofs.Accepted.{step-length}
 use Rattle.promises.proofs.Faults.{running-faults}
 use Rattle.promises.proofs.Reaches.{writes-only}
 
-module _ (s : State) (m : List ℕ) (e : ℕ) where
-  running-does : (r : Raised) → raisedOf (tickedOf s e) m ≡ r → Does s m e (runningTold r) (runningOf (tickedOf s e) m)
+module _ (p : Profile) (s : State) (m : List ℕ) (e : ℕ) where
+  running-does : (r : Raised) → raisedOf p (tickedOf s e) m ≡ r → Does p s m e (runningTold r) (runningOf p (tickedOf s e) m)
   running-does Raised.Nothing q = (refl, q)
-  running-does (Raised.Raises c) q = running-faults (tickedOf s e) m c q
+  running-does (Raised.Raises c) q = running-faults p (tickedOf s e) m c q
 
-  awake-does : (w : Bool) → Does s m e (pick w Told.Waits (runningTold (raisedOf (tickedOf s e) m))) (pick w (plain (tickedOf s e) m) (runningOf (tickedOf s e) m))
+  awake-does : (w : Bool) → Does p s m e (pick w Told.Waits (runningTold (raisedOf p (tickedOf s e) m))) (pick w (plain (tickedOf s e) m) (runningOf p (tickedOf s e) m))
   awake-does true = refl
-  awake-does false = running-does (raisedOf (tickedOf s e) m) refl
+  awake-does false = running-does (raisedOf p (tickedOf s e) m) refl
 
-  interruptible-does : (p : Pending) → Does s m e (interruptibleTold (tickedOf s e) m p) (interruptibleOf (tickedOf s e) m p)
+  interruptible-does : (k : Pending) → Does p s m e (interruptibleTold p (tickedOf s e) m k) (interruptibleOf p (tickedOf s e) m k)
   unfolding awakeOf
   interruptible-does (Pending.Take v) = refl
   interruptible-does Pending.Nothing = awake-does (bitAt (tickedOf s e .msr) 13)
 
-  acts-does : (a : Bool) (p : Pending)
-      → Does s m e (pick a Told.Acts (interruptibleTold (tickedOf s e) m p)) (pick a (plain (actedOf (tickedOf s e)) m) (interruptibleOf (tickedOf s e) m p))
-  acts-does true p = refl
-  acts-does false p = interruptible-does p
+  acts-does : (a : Bool) (k : Pending)
+      → Does p s m e (pick a Told.Acts (interruptibleTold p (tickedOf s e) m k)) (pick a (plain (actedOf (tickedOf s e)) m) (interruptibleOf p (tickedOf s e) m k))
+  acts-does true k = refl
+  acts-does false k = interruptible-does k
 
-  halt-does : (h a : Bool) (p : Pending)
-      → Does s m e (pick h (pick a Told.Acts (interruptibleTold (tickedOf s e) m p)) Told.Halted)
-      (pick h (pick a (plain (actedOf (tickedOf s e)) m) (interruptibleOf (tickedOf s e) m p)) (plain s m))
-  halt-does true a p = acts-does a p
-  halt-does false a p = refl
+  halt-does : (h a : Bool) (k : Pending)
+      → Does p s m e (pick h (pick a Told.Acts (interruptibleTold p (tickedOf s e) m k)) Told.Halted)
+      (pick h (pick a (plain (actedOf (tickedOf s e)) m) (interruptibleOf p (tickedOf s e) m k)) (plain s m))
+  halt-does true a k = acts-does a k
+  halt-does false a k = refl
 
   -- what is told is what the step does
-  pub told-true : Does s m e (toldOf s m e) (stepOf s m e)
+  pub told-true : Does p s m e (toldOf p s m e) (stepOf p s m e)
   unfolding toldOf stepOf countedOf
   told-true = halt-does (eqb (s .halt) 0) (actsOf s e) (highestOf (tickedOf s e) e)
 
@@ -65,30 +66,30 @@ module _ (s : State) (m : List ℕ) (e : ℕ) where
   written-told true u = refl
   written-told false u = refl
 
-  writes-told : writesOf s m e ≡ writtenBy m (useOf s m e)
+  writes-told : writesOf p s m e ≡ writtenBy m (useOf p s m e)
   unfolding writesOf useOf runningWrites
-  writes-told = written-told (executes s e) (fetchedUse (tickedOf s e) (fetchOf m (tickedOf s e .iar)))
+  writes-told = written-told (executes s e) (fetchedUse p (tickedOf s e) (fetchOf m (tickedOf s e .iar)))
 
   misses-told : (i a n : ℕ) (k : Access) → (i < a) ⊎ (a + n ≤ i) → Misses i (touched k a n)
   misses-told i a n Access.Served h = (h, tt)
   misses-told i a n Access.Unaligned h = tt
   misses-told i a n Access.Outside h = tt
 
-  same : ((i : ℕ) → Misses i (writesOf s m e)) → stepOf s m e .mem ≡ m
-  same h = ext-getD 0 (stepOf s m e .mem) m (step-length s m e) (λ i l. writes-only s m e i (h i))
+  same : ((i : ℕ) → Misses i (writesOf p s m e)) → stepOf p s m e .mem ≡ m
+  same h = ext-getD 0 (stepOf p s m e .mem) m (step-length p s m e) (λ i l. writes-only p s m e i (h i))
 
-  spares-cases : (u : Use) → writesOf s m e ≡ writtenBy m u → Spares m u (stepOf s m e .mem)
+  spares-cases : (u : Use) → writesOf p s m e ≡ writtenBy m u → Spares m u (stepOf p s m e .mem)
   spares-cases Use.Idle q = same (λ i. rw q tt)
   spares-cases (Use.Reads a n) q = same (λ i. rw q tt)
-  spares-cases (Use.Writes a n) q = λ i h. writes-only s m e i (rw q (misses-told i a n (accessOf (length m) a n) h))
+  spares-cases (Use.Writes a n) q = λ i h. writes-only p s m e i (rw q (misses-told i a n (accessOf (length m) a n) h))
 
   -- a step changes no byte outside the access that is told, and none where that does not write
-  pub use-true : Spares m (useOf s m e) (stepOf s m e .mem)
-  use-true = spares-cases (useOf s m e) writes-told
+  pub use-true : Spares m (useOf p s m e) (stepOf p s m e .mem)
+  use-true = spares-cases (useOf p s m e) writes-told
 
 -- ---- the interrupts that a step takes have codes of their own
 
-abbrev Asynchronous : Pending → Type 0
+abbrev pub Asynchronous : Pending → Type 0
 Asynchronous (Pending.Take v) = 4 ≤ vectorCode v
 Asynchronous Pending.Nothing = Unit {0}
 
@@ -100,7 +101,7 @@ Coded Told.Waits = Unit {0}
 Coded Told.Executes = Unit {0}
 Coded (Told.Faults c) = Unit {0}
 
-highest-asynchronous : (s : State) (e : ℕ) → Asynchronous (highestOf s e)
+pub highest-asynchronous : (s : State) (e : ℕ) → Asynchronous (highestOf s e)
 unfolding highestOf
 highest-asynchronous s e =
     picked Asynchronous (bitAt (s .msr) 16)
@@ -113,16 +114,16 @@ running-coded : (r : Raised) → Coded (runningTold r)
 running-coded Raised.Nothing = tt
 running-coded (Raised.Raises c) = tt
 
-interruptible-coded : (s : State) (m : List ℕ) (p : Pending) → Asynchronous p → Coded (interruptibleTold s m p)
-interruptible-coded s m (Pending.Take v) h = h
-interruptible-coded s m Pending.Nothing h = picked Coded (bitAt (s .msr) 13) tt (running-coded (raisedOf s m))
+interruptible-coded : (p : Profile) (s : State) (m : List ℕ) (k : Pending) → Asynchronous k → Coded (interruptibleTold p s m k)
+interruptible-coded p s m (Pending.Take v) h = h
+interruptible-coded p s m Pending.Nothing h = picked Coded (bitAt (s .msr) 13) tt (running-coded (raisedOf p s m))
 
-told-coded : (s : State) (m : List ℕ) (e : ℕ) → Coded (toldOf s m e)
+told-coded : (p : Profile) (s : State) (m : List ℕ) (e : ℕ) → Coded (toldOf p s m e)
 unfolding toldOf
-told-coded s m e =
+told-coded p s m e =
     let t = tickedOf s e in
-    picked Coded (eqb (s .halt) 0) (picked Coded (actsOf s e) tt (interruptible-coded t m (highestOf t e) (highest-asynchronous t e))) tt
+    picked Coded (eqb (s .halt) 0) (picked Coded (actsOf s e) tt (interruptible-coded p t m (highestOf t e) (highest-asynchronous t e))) tt
 
 -- so the 0 that stands for a halted core stands for no interrupt
-pub takes-coded : (s : State) (m : List ℕ) (e : ℕ) (v : Vector) → toldOf s m e ≡ Told.Takes v → 4 ≤ vectorCode v
-takes-coded s m e v q = rw q at (told-coded s m e)
+pub takes-coded : (p : Profile) (s : State) (m : List ℕ) (e : ℕ) (v : Vector) → toldOf p s m e ≡ Told.Takes v → 4 ≤ vectorCode v
+takes-coded p s m e v q = rw q at (told-coded p s m e)

@@ -1,4 +1,5 @@
--- The scope's worked numbers, each played by one whole step, and its worked words, each read. Assumes nothing.
+-- The scope's worked numbers, each played by one whole step on both cores, and its worked words, each read; and some of what the 42X adds.
+-- Assumes nothing.
 use Prim.Native.Nat.{ℕ}
 use mathlib.Core.Bool.{false}
 use mathlib.Core.Path.{_≡_, refl}
@@ -7,13 +8,15 @@ use mathlib.Core.List.{List, [], _∷_, _++_, map}
 use lib.Count.{leadingZeros}
 use lib.ListN.{replicate}
 use Rattle.word.specs.Rotate.{mask, putAt}
+use Rattle.word.specs.Double.{mask64}
 use Rattle.word.specs.declared.width.Width.{Width}
 use Rattle.memory.specs.Access.{accessOf, fetchAccessOf}
 use Rattle.memory.specs.Load.{valueAt, fetchOf}
 use Rattle.memory.specs.Store.{bytesOf}
 use Rattle.insn.specs.Fields.{fieldsOf}
 use Rattle.insn.specs.Valid.{regOf}
-use Rattle.insn.specs.Read.{decodeOf, primary, primaryRows, loadStore, loadStoreRows, arithmetic, arithmeticRows, logical, logicalRows, opcode4, rows4}
+use Rattle.insn.specs.Read.{decodeOf, decodeOn, primary, primaryRows, loadStore, loadStoreRows, added, addedRows, arithmetic, arithmeticRows, logical, logicalRows, opcode4, rows4, opcode30, rows30}
+use Rattle.insn.specs.declared.profile.Profile.{Profile}
 use Rattle.insn.specs.declared.instr.Instr.{Instr}
 use Rattle.insn.specs.declared.instr.Decoded.{Decoded}
 use Rattle.insn.specs.declared.instr.Arithmetic.{Arithmetic}
@@ -22,10 +25,10 @@ use Rattle.insn.specs.declared.instr.LoadStore.{LoadStore}
 use Rattle.insn.specs.declared.instr.ArithImmOp.{ArithImmOp}
 use Rattle.insn.specs.declared.instr.LogicOneOp.{LogicOneOp}
 use Rattle.machine.specs.After.{After, plain}
-use Rattle.machine.specs.State.{gprOf, withGpr, with}
-use Rattle.machine.specs.Result.{nextOf, cr0Of, recordedOf, carriedOf, overflowedOf, resultOf}
+use Rattle.machine.specs.State.{gprOf, vdrOf, withGpr, withVdr, with}
+use Rattle.machine.specs.Result.{nextOf, cr0Of, recordedOf, carriedOf, overflowedOf, resultOf, recordedDoubleOf, doubleResultOf}
 use Rattle.machine.specs.Timer.{decAfter, tsrAfter, pendingOf, eventNoted, tickedOf, actsOf}
-use Rattle.machine.specs.Arithmetic.{summedOf, arithmeticOf}
+use Rattle.machine.specs.Arithmetic.{summedOf, multipliedOf, arithmeticOf}
 use Rattle.machine.specs.Logical.{logicalOf}
 use Rattle.machine.specs.Compare.{comparedOf, compareOf}
 use Rattle.machine.specs.Rotate.{shiftedOf, shiftOf, rotateOf}
@@ -40,19 +43,23 @@ stateOf dec iar r3 r4 r5 cr xer = record { gpr = 0 ∷ 0 ∷ 0 ∷ r3 ∷ r4 ∷
 abbrev pub memoryOf : ℕ → List ℕ
 memoryOf word = bytesOf Width.Word word ++ replicate 28 0
 
--- a word; r3, r4 and XER before its step; r5, CR and XER after it. Or a word and what it reads as
+-- a word; r3, r4 and XER before its step; r5, CR and XER after it. Or a word that rotates the doubleword of r3 and r4; both before its
+-- step; both and CR after it. Or a word and what it reads as
 pub data Row : Type 0 where
   step : (word r3 r4 xer r5 cr xer′ : ℕ) → Row
+  pair : (word r3 r4 r3′ r4′ cr : ℕ) → Row
   reads : ℕ → Instr → Row
 
 -- r5 begins as 99990005, which no row writes
-abbrev pub computed : Row → After ⊎ Decoded
-computed (step word r3 r4 xer r5 cr xer′) = inl (stepOf (stateOf 1 0 r3 r4 0x9999_0005 0 xer) (memoryOf word) 0)
-computed (reads word i) = inr (decodeOf word)
+abbrev pub computed : Profile → Row → After ⊎ Decoded
+computed p (step word r3 r4 xer r5 cr xer′) = inl (stepOf p (stateOf 1 0 r3 r4 0x9999_0005 0 xer) (memoryOf word) 0)
+computed p (pair word r3 r4 r3′ r4′ cr) = inl (stepOf p (stateOf 1 0 r3 r4 0x9999_0005 0 0) (memoryOf word) 0)
+computed p (reads word i) = inr (decodeOn p word)
 
 -- DEC has counted, IAR is at the next word, and all that a row does not name is as it was
 abbrev pub printed : Row → After ⊎ Decoded
 printed (step word r3 r4 xer r5 cr xer′) = inl (plain (stateOf 0 4 r3 r4 r5 cr xer′) (memoryOf word))
+printed (pair word r3 r4 r3′ r4′ cr) = inl (plain (stateOf 0 4 r3′ r4′ 0x9999_0005 cr 0) (memoryOf word))
 printed (reads word i) = inr (Decoded.Insn i)
 
 abbrev pub rows : List Row
@@ -80,10 +87,30 @@ rows =
     ∷ reads 0x7FE0_0008 (Instr.Trap 31 0 0 false)  -- trap
     ∷ []
 
+-- what the 42X adds
+abbrev pub rows42x : List Row
+rows42x =
+    step 0x1CA3_FFFD 0x1234_5678 0x0000_0000 0x0000_0000 0xC962_FC98 0x0000_0000 0x0000_0000  -- mulli r5,r3,-3
+    ∷ step 0x7CA3_25D6 0x8000_0000 0x0000_0002 0x0000_0000 0x0000_0000 0x0000_0000 0xC000_0000  -- mullwo r5,r3,r4: SO, OV
+    --     word        r3          r4          r3          r4          CR
+    ∷ pair 0x7863_4401 0x0123_4567 0x89AB_CDEF 0x0000_6789 0xABCD_EF01 0x4000_0000  -- rldicl. d3,d3,8,16: GT
+    ∷ []
+
+-- the rows of a core
+abbrev pub rowsOn : Profile → List Row
+rowsOn Profile.Ppe42 = rows
+rowsOn Profile.Ppe42x = rows ++ rows42x
+
 -- every row holds: both lists are computed
-pub rows-hold : map computed rows ≡ map printed rows
-unfolding bytesOf decodeOf fieldsOf regOf primary primaryRows loadStore loadStoreRows arithmetic arithmeticRows logical logicalRows opcode4 rows4
+pub rows-hold : (p : Profile) → map (computed p) (rowsOn p) ≡ map printed (rowsOn p)
+unfolding bytesOf decodeOn decodeOf fieldsOf regOf primary primaryRows loadStore loadStoreRows added addedRows arithmetic arithmeticRows logical logicalRows opcode4 rows4 opcode30 rows30
     stepOf countedOf tickedOf decAfter tsrAfter eventNoted pendingOf actsOf highestOf awakeOf runningOf fetchOf fetchAccessOf accessOf valueAt executeOf
-    arithmeticOf summedOf logicalOf compareOf comparedOf rotateOf shiftOf shiftedOf resultOf recordedOf carriedOf overflowedOf cr0Of nextOf
-    with withGpr gprOf putAt mask leadingZeros
-rows-hold = refl
+    arithmeticOf summedOf multipliedOf logicalOf compareOf comparedOf rotateOf shiftOf shiftedOf resultOf recordedOf carriedOf overflowedOf cr0Of recordedDoubleOf doubleResultOf nextOf
+    with withGpr withVdr gprOf vdrOf putAt mask mask64 leadingZeros
+rows-hold Profile.Ppe42 = refl
+rows-hold Profile.Ppe42x = refl
+
+-- and on the 42 the words of the added ones are illegal
+pub added-illegal : map (decodeOn Profile.Ppe42) (0x1CA3_FFFD ∷ 0x7CA3_25D6 ∷ 0x7863_4401 ∷ []) ≡ replicate 3 Decoded.Illegal
+unfolding decodeOn decodeOf fieldsOf regOf primary primaryRows loadStore loadStoreRows added addedRows arithmetic arithmeticRows opcode30 rows30
+added-illegal = refl

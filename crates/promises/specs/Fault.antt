@@ -2,14 +2,15 @@
 use Prim.Native.Nat.{ℕ}
 use mathlib.Core.List.{List}
 use mathlib.Core.Path.{_≡_}
+use Rattle.insn.specs.declared.profile.Profile.{Profile}
 use Rattle.machine.specs.After.{After}
 use Rattle.machine.specs.Interrupt.{interruptedOf}
 use Rattle.machine.specs.declared.state.State.{State}
 use Rattle.machine.specs.declared.interrupt.Cause.{Cause}
 
 -- what a fault leaves: the interrupted state and the memory as it was
-abbrev pub faulted : State → List ℕ → Cause → After → Type 0
-faulted s m c a = (a .st ≡ interruptedOf s c) × (a .mem ≡ m)
+abbrev pub faulted : Profile → State → List ℕ → Cause → After → Type 0
+faulted p s m c a = (a .st ≡ interruptedOf p s c) × (a .mem ≡ m)
 
 -- only SRR0, SRR1, MSR, ISR, EDR, IAR and the halt code may differ
 pub record OnlyInterrupt (s t : State) : Type 0 where

@@ -2,3 +2,4 @@ pub mod Fault
 pub mod Reach
 pub mod Told
 pub mod Growth
+pub mod Same

@@ -7,6 +7,7 @@ use lib.ListN.{length, getD}
 use Rattle.memory.specs.Access.{pick, accessOf, fetchAccessOf}
 use Rattle.memory.specs.Load.{fetchOf}
 use Rattle.memory.specs.declared.access.Access.{Access}
+use Rattle.insn.specs.declared.profile.Profile.{Profile}
 use Rattle.machine.specs.After.{After}
 use Rattle.machine.specs.Timer.{tickedOf}
 use Rattle.machine.specs.declared.state.State.{State}
@@ -41,17 +42,17 @@ writtenBy m (Use.Reads a n) = []
 writtenBy m (Use.Writes a n) = touchedAt m a n
 
 -- line 6: the fetch, then what the instruction reads
-unfoldable pub runningReads : State → List ℕ → List Span
-runningReads s m = fetchedAt m (s .iar) ++ readBy m (fetchedUse s (fetchOf m (s .iar)))
+unfoldable pub runningReads : Profile → State → List ℕ → List Span
+runningReads p s m = fetchedAt m (s .iar) ++ readBy m (fetchedUse p s (fetchOf m (s .iar)))
 
-unfoldable pub runningWrites : State → List ℕ → List Span
-runningWrites s m = writtenBy m (fetchedUse s (fetchOf m (s .iar)))
+unfoldable pub runningWrites : Profile → State → List ℕ → List Span
+runningWrites p s m = writtenBy m (fetchedUse p s (fetchOf m (s .iar)))
 
-unfoldable pub readsOf : State → List ℕ → ℕ → List Span
-readsOf s m e = pick (executes s e) (runningReads (tickedOf s e) m) []
+unfoldable pub readsOf : Profile → State → List ℕ → ℕ → List Span
+readsOf p s m e = pick (executes s e) (runningReads p (tickedOf s e) m) []
 
-unfoldable pub writesOf : State → List ℕ → ℕ → List Span
-writesOf s m e = pick (executes s e) (runningWrites (tickedOf s e) m) []
+unfoldable pub writesOf : Profile → State → List ℕ → ℕ → List Span
+writesOf p s m e = pick (executes s e) (runningWrites p (tickedOf s e) m) []
 
 -- every span lies within n bytes
 abbrev pub Inside : ℕ → List Span → Type 0

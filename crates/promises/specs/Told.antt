@@ -4,6 +4,7 @@ use mathlib.Core.List.{List}
 use mathlib.Core.Path.{_≡_}
 use mathlib.Core.Logic.{_⊎_}
 use lib.ListN.{getD}
+use Rattle.insn.specs.declared.profile.Profile.{Profile}
 use Rattle.machine.specs.After.{After, plain}
 use Rattle.machine.specs.Interrupt.{enteredOf}
 use Rattle.machine.specs.Timer.{tickedOf, actedOf}
@@ -16,13 +17,13 @@ use Rattle.tell.specs.declared.uses.Use.{Use}
 use Rattle.promises.specs.Fault.{faulted}
 
 -- what a step leaves of which this was told
-abbrev pub Does : State → List ℕ → ℕ → Told → After → Type 0
-Does s m e Told.Halted a = a ≡ plain s m
-Does s m e Told.Acts a = a ≡ plain (actedOf (tickedOf s e)) m
-Does s m e (Told.Takes v) a = a ≡ plain (enteredOf (tickedOf s e) v) m
-Does s m e Told.Waits a = a ≡ plain (tickedOf s e) m
-Does s m e Told.Executes a = (a ≡ runningOf (tickedOf s e) m) × (raisedOf (tickedOf s e) m ≡ Raised.Nothing)
-Does s m e (Told.Faults c) a = faulted (tickedOf s e) m c a
+abbrev pub Does : Profile → State → List ℕ → ℕ → Told → After → Type 0
+Does p s m e Told.Halted a = a ≡ plain s m
+Does p s m e Told.Acts a = a ≡ plain (actedOf (tickedOf s e)) m
+Does p s m e (Told.Takes v) a = a ≡ plain (enteredOf p (tickedOf s e) v) m
+Does p s m e Told.Waits a = a ≡ plain (tickedOf s e) m
+Does p s m e Told.Executes a = (a ≡ runningOf p (tickedOf s e) m) × (raisedOf p (tickedOf s e) m ≡ Raised.Nothing)
+Does p s m e (Told.Faults c) a = faulted p (tickedOf s e) m c a
 
 -- what a step may do to the memory m of which this access was told: only one that writes changes it, and no byte outside of what is told
 abbrev pub Spares : List ℕ → Use → List ℕ → Type 0

@@ -10,6 +10,7 @@ use lib.ListN.{length, getD, drop, drop-of-length-le}
 use lib.Seq.{drop-cons}
 use borrow.Author.Tests.{eq-eqb, ne-eqb, lt-ltb, le-ltb}
 use Rattle.memory.specs.Access.{pick}
+use Rattle.insn.specs.declared.profile.Profile.{Profile}
 use Rattle.machine.specs.declared.state.State.{State}
 use Rattle.machine.specs.declared.refusal.Refusal.{Refusal}
 use Rattle.machine.specs.Refusal.{acceptsOf}
@@ -19,63 +20,63 @@ use Rattle.machine.proofs.Refusals.{or-accepts, start-accepts, accepted-halt}
 use Rattle.run.specs.Run.{Ran, runOf, pastOf}
 use Rattle.run.specs.Outcome.{eventsGood, accepted, refusedWith, answered, runRefusal, stepRefusal, stepOutcome}
 
-module _ (ev : List ℕ) (s : State) (m : List ℕ) where
+module _ (p : Profile) (ev : List ℕ) (s : State) (m : List ℕ) where
   pub run-more : (b i : ℕ) → i < b → s .halt ≡ 0
-      → runOf (b - i) i ev s m ≡ runOf (b - (i + 1)) (i + 1) ev (stepOf s m (getD ev i 0) .st) (stepOf s m (getD ev i 0) .mem)
+      → runOf p (b - i) i ev s m ≡ runOf p (b - (i + 1)) (i + 1) ev (stepOf p s m (getD ev i 0) .st) (stepOf p s m (getD ev i 0) .mem)
   unfolding runOf
   run-more b i h z =
       let e : b - i ≡ suc (b - (i + 1)) = omega arith in
       rw (e, eq-eqb (s .halt) 0 z, add-one)
 
-  pub run-spent : (b i : ℕ) → b ≤ i → runOf (b - i) i ev s m ≡ record { st = s; mem = m; steps = i }
+  pub run-spent : (b i : ℕ) → b ≤ i → runOf p (b - i) i ev s m ≡ record { st = s; mem = m; steps = i }
   unfolding runOf
   run-spent b i h =
       let e : b - i ≡ 0 = omega arith in
       rw e
 
-  pub run-halted : (n i : ℕ) → (s .halt ≡ 0 → ⊥) → runOf n i ev s m ≡ record { st = s; mem = m; steps = i }
+  pub run-halted : (n i : ℕ) → (s .halt ≡ 0 → ⊥) → runOf p n i ev s m ≡ record { st = s; mem = m; steps = i }
   unfolding runOf
   run-halted zero i h = refl
   run-halted (suc n) i h = rw (ne-eqb (s .halt) 0 h)
 
 -- a run whose first steps reached, or not, and whose next one did, or not
-turn-past : (p q r : Bool) → (p || pick q true r) ≡ ((p || q) || r)
+turn-past : (t q r : Bool) → (t || pick q true r) ≡ ((t || q) || r)
 turn-past true q r = refl
 turn-past false true r = refl
 turn-past false false r = refl
 
-module _ (ev : List ℕ) (s : State) (m : List ℕ) where
-  pub past-more : (b i : ℕ) (p : Bool) → i < b → s .halt ≡ 0
-      → (p || pastOf (b - i) i ev s m) ≡ ((p || stepOf s m (getD ev i 0) .past) || pastOf (b - (i + 1)) (i + 1) ev (stepOf s m (getD ev i 0) .st) (stepOf s m (getD ev i 0) .mem))
+module _ (p : Profile) (ev : List ℕ) (s : State) (m : List ℕ) where
+  pub past-more : (b i : ℕ) (t : Bool) → i < b → s .halt ≡ 0
+      → (t || pastOf p (b - i) i ev s m) ≡ ((t || stepOf p s m (getD ev i 0) .past) || pastOf p (b - (i + 1)) (i + 1) ev (stepOf p s m (getD ev i 0) .st) (stepOf p s m (getD ev i 0) .mem))
   unfolding pastOf
-  past-more b i p h z =
+  past-more b i t h z =
       let e : b - i ≡ suc (b - (i + 1)) = omega arith in
-      rw (e, eq-eqb (s .halt) 0 z, add-one) (turn-past p (stepOf s m (getD ev i 0) .past) _)
+      rw (e, eq-eqb (s .halt) 0 z, add-one) (turn-past t (stepOf p s m (getD ev i 0) .past) _)
 
-  pub past-spent : (b i : ℕ) → b ≤ i → pastOf (b - i) i ev s m ≡ false
+  pub past-spent : (b i : ℕ) → b ≤ i → pastOf p (b - i) i ev s m ≡ false
   unfolding pastOf
   past-spent b i h =
       let e : b - i ≡ 0 = omega arith in
       rw e
 
-  pub past-halted : (n i : ℕ) → (s .halt ≡ 0 → ⊥) → pastOf n i ev s m ≡ false
+  pub past-halted : (n i : ℕ) → (s .halt ≡ 0 → ⊥) → pastOf p n i ev s m ≡ false
   unfolding pastOf
   past-halted zero i h = refl
   past-halted (suc n) i h = rw (ne-eqb (s .halt) 0 h)
 
-pub or-nothing : (p : Bool) → (p || false) ≡ p
+pub or-nothing : (t : Bool) → (t || false) ≡ t
 or-nothing true = refl
 or-nothing false = refl
 
-pub or-told : (p : Bool) → (p || true) ≡ true
+pub or-told : (t : Bool) → (t || true) ≡ true
 or-told true = refl
 or-told false = refl
 
 -- a run of one step
-pub run-one : (e : ℕ) (s : State) (m : List ℕ) → s .halt ≡ 0
-    → runOf 1 0 (e ∷ []) s m ≡ record { st = stepOf s m e .st; mem = stepOf s m e .mem; steps = 1 }
+pub run-one : (p : Profile) (e : ℕ) (s : State) (m : List ℕ) → s .halt ≡ 0
+    → runOf p 1 0 (e ∷ []) s m ≡ record { st = stepOf p s m e .st; mem = stepOf p s m e .mem; steps = 1 }
 unfolding runOf
-run-one e s m z = rw (eq-eqb (s .halt) 0 z)
+run-one p e s m z = rw (eq-eqb (s .halt) 0 z)
 
 pub good-more : (ev : List ℕ) (i : ℕ) → i < length ev → getD ev i 0 < 64 → eventsGood (drop i ev) ≡ eventsGood (drop (i + 1) ev)
 unfolding eventsGood
@@ -94,11 +95,11 @@ refused-kept s r ran true e h = absurd (subst (λ (b : Bool). Holds (not (accept
 refused-kept s r ran false e h = rw e
 
 -- a refused step leaves the state
-pub refused-state : (s : State) (m : List ℕ) (e : ℕ) → Holds (not (acceptsOf (stepOutcome s m e .refusal))) → s ≡ stepOutcome s m e .state
+pub refused-state : (p : Profile) (s : State) (m : List ℕ) (e : ℕ) → Holds (not (acceptsOf (stepOutcome p s m e .refusal))) → s ≡ stepOutcome p s m e .state
 unfolding stepOutcome
-refused-state s m e h = refused-kept s (stepRefusal s m e) (runOf 1 0 (e ∷ []) s m) (acceptsOf (stepRefusal s m e)) refl h
+refused-state p s m e h = refused-kept s (stepRefusal p s m e) (runOf p 1 0 (e ∷ []) s m) (acceptsOf (stepRefusal p s m e)) refl h
 
 -- an accepted run starts with one of the halt codes
-pub run-halt : (s : State) (m ev : List ℕ) (budget : ℕ) → acceptsOf (runRefusal s m ev budget) ≡ true → s .halt ≤ 5
+pub run-halt : (p : Profile) (s : State) (m ev : List ℕ) (budget : ℕ) → acceptsOf (runRefusal p s m ev budget) ≡ true → s .halt ≤ 5
 unfolding runRefusal
-run-halt s m ev budget h = accepted-halt s (start-accepts s (length m) (or-accepts (startRefusal s (length m)) _ h .0) .1)
+run-halt p s m ev budget h = accepted-halt p s (start-accepts p s (length m) (or-accepts (startRefusal p s (length m)) _ h .0) .1)

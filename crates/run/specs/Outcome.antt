@@ -5,6 +5,7 @@ use mathlib.Core.List.{List, [], _∷_}
 use lib.Dec.{leb, ltb}
 use lib.ListN.{length}
 use Rattle.memory.specs.Access.{pick}
+use Rattle.insn.specs.declared.profile.Profile.{Profile}
 use Rattle.machine.specs.Refusal.{acceptsOf, unless, orElse}
 use Rattle.machine.specs.Register.{startRefusal}
 use Rattle.machine.specs.declared.state.State.{State}
@@ -22,12 +23,12 @@ unfoldable pub eventsRefusal : List ℕ → Refusal
 eventsRefusal ev = unless (leb (length ev) 1048576 && eventsGood ev) Refusal.Events
 
 -- a run checks 1, 2, 3, 4, 5
-unfoldable pub runRefusal : State → List ℕ → List ℕ → ℕ → Refusal
-runRefusal s m ev budget = orElse (startRefusal s (length m)) (orElse (unless (leb budget 1048576) Refusal.Budget) (eventsRefusal ev))
+unfoldable pub runRefusal : Profile → State → List ℕ → List ℕ → ℕ → Refusal
+runRefusal p s m ev budget = orElse (startRefusal p s (length m)) (orElse (unless (leb budget 1048576) Refusal.Budget) (eventsRefusal ev))
 
 -- a single step checks 1, 2, 3, 5, its event being a list of one
-unfoldable pub stepRefusal : State → List ℕ → ℕ → Refusal
-stepRefusal s m e = orElse (startRefusal s (length m)) (eventsRefusal (e ∷ []))
+unfoldable pub stepRefusal : Profile → State → List ℕ → ℕ → Refusal
+stepRefusal p s m e = orElse (startRefusal p s (length m)) (eventsRefusal (e ∷ []))
 
 -- the state as given and no steps
 abbrev pub refusedWith : State → Refusal → Outcome
@@ -44,26 +45,26 @@ answered r s ran = pick (acceptsOf r) (accepted ran) (refusedWith s r)
 abbrev pub remembered : Refusal → List ℕ → Ran → List ℕ
 remembered r m ran = pick (acceptsOf r) (ran .mem) m
 
-unfoldable pub runOutcome : State → List ℕ → List ℕ → ℕ → Outcome
-runOutcome s m ev budget = answered (runRefusal s m ev budget) s (runOf budget 0 ev s m)
+unfoldable pub runOutcome : Profile → State → List ℕ → List ℕ → ℕ → Outcome
+runOutcome p s m ev budget = answered (runRefusal p s m ev budget) s (runOf p budget 0 ev s m)
 
-unfoldable pub runMemory : State → List ℕ → List ℕ → ℕ → List ℕ
-runMemory s m ev budget = remembered (runRefusal s m ev budget) m (runOf budget 0 ev s m)
+unfoldable pub runMemory : Profile → State → List ℕ → List ℕ → ℕ → List ℕ
+runMemory p s m ev budget = remembered (runRefusal p s m ev budget) m (runOf p budget 0 ev s m)
 
 -- whether it reached past its memory; refused, it took no step
-unfoldable pub runPast : State → List ℕ → List ℕ → ℕ → Bool
-runPast s m ev budget = pick (acceptsOf (runRefusal s m ev budget)) (pastOf budget 0 ev s m) false
+unfoldable pub runPast : Profile → State → List ℕ → List ℕ → ℕ → Bool
+runPast p s m ev budget = pick (acceptsOf (runRefusal p s m ev budget)) (pastOf p budget 0 ev s m) false
 
 -- the run that ends with the first step that reaches: the refusals for its budget, and the steps of the cut one
-unfoldable pub insideOutcome : State → List ℕ → List ℕ → ℕ → Outcome
-insideOutcome s m ev budget = answered (runRefusal s m ev budget) s (runOf (insideOf budget 0 ev s m) 0 ev s m)
+unfoldable pub insideOutcome : Profile → State → List ℕ → List ℕ → ℕ → Outcome
+insideOutcome p s m ev budget = answered (runRefusal p s m ev budget) s (runOf p (insideOf p budget 0 ev s m) 0 ev s m)
 
-unfoldable pub insideMemory : State → List ℕ → List ℕ → ℕ → List ℕ
-insideMemory s m ev budget = remembered (runRefusal s m ev budget) m (runOf (insideOf budget 0 ev s m) 0 ev s m)
+unfoldable pub insideMemory : Profile → State → List ℕ → List ℕ → ℕ → List ℕ
+insideMemory p s m ev budget = remembered (runRefusal p s m ev budget) m (runOf p (insideOf p budget 0 ev s m) 0 ev s m)
 
 -- a single step is a run of one
-unfoldable pub stepOutcome : State → List ℕ → ℕ → Outcome
-stepOutcome s m e = answered (stepRefusal s m e) s (runOf 1 0 (e ∷ []) s m)
+unfoldable pub stepOutcome : Profile → State → List ℕ → ℕ → Outcome
+stepOutcome p s m e = answered (stepRefusal p s m e) s (runOf p 1 0 (e ∷ []) s m)
 
-unfoldable pub stepMemory : State → List ℕ → ℕ → List ℕ
-stepMemory s m e = remembered (stepRefusal s m e) m (runOf 1 0 (e ∷ []) s m)
+unfoldable pub stepMemory : Profile → State → List ℕ → ℕ → List ℕ
+stepMemory p s m e = remembered (stepRefusal p s m e) m (runOf p 1 0 (e ∷ []) s m)

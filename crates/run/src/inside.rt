@@ -8,6 +8,7 @@ use crate::outcome::run_refusal;
 use crate::reach::Reached;
 use crate::run::event_at;
 use crate::run::refused;
+use insn::profile::Profile;
 use machine::refusal::Refusal;
 use machine::refusal::accepts;
 use machine::state::State;
@@ -15,9 +16,15 @@ use marked::mark::unmark;
 use marked::step::step_marked;
 
 // The run's loop: the mark of a reach ends it as a halt does, and is taken off behind it.
-fn accepted_inside(start: State, mem: &mut [u8], events: &[u8], budget: u32) -> Reached
+fn accepted_inside(
+    profile: Profile,
+    start: State,
+    mem: &mut [u8],
+    events: &[u8],
+    budget: u32,
+) -> Reached
     requires { ⌜ start .halt ≤ 5 ⌝ }
-    ensures { λ r. ⌜ (r ≡ record { outcome = accepted (runOf (insideOf budget 0 (now (events .entry)) start (now (mem .entry))) 0 (now (events .entry)) start (now (mem .entry))); past = pastOf budget 0 (now (events .entry)) start (now (mem .entry)) }) × (now (mem .exit) ≡ runOf (insideOf budget 0 (now (events .entry)) start (now (mem .entry))) 0 (now (events .entry)) start (now (mem .entry)) .mem) ⌝ }
+    ensures { λ r. ⌜ (r ≡ record { outcome = accepted (runOf profile (insideOf profile budget 0 (now (events .entry)) start (now (mem .entry))) 0 (now (events .entry)) start (now (mem .entry))); past = pastOf profile budget 0 (now (events .entry)) start (now (mem .entry)) }) × (now (mem .exit) ≡ runOf profile (insideOf profile budget 0 (now (events .entry)) start (now (mem .entry))) 0 (now (events .entry)) start (now (mem .entry)) .mem) ⌝ }
 {
     let mut s = start;
     let mut i = 0;
@@ -28,7 +35,7 @@ fn accepted_inside(start: State, mem: &mut [u8], events: &[u8], budget: u32) -> 
         if s.halt != 0 {
             break;
         }
-        s = step_marked(s, mem, event_at(events, i));
+        s = step_marked(profile, s, mem, event_at(events, i));
         i += 1;
     }
     let past = s.halt >= 8;
@@ -46,12 +53,18 @@ fn accepted_inside(start: State, mem: &mut [u8], events: &[u8], budget: u32) -> 
     }
 }
 
-pub fn run_inside(state: State, mem: &mut [u8], events: &[u8], budget: u32) -> Reached
-    ensures { λ r. ⌜ (r ≡ record { outcome = insideOutcome state (now (mem .entry)) (now (events .entry)) budget; past = runPast state (now (mem .entry)) (now (events .entry)) budget }) × (now (mem .exit) ≡ insideMemory state (now (mem .entry)) (now (events .entry)) budget) ⌝ }
+pub fn run_inside(
+    profile: Profile,
+    state: State,
+    mem: &mut [u8],
+    events: &[u8],
+    budget: u32,
+) -> Reached
+    ensures { λ r. ⌜ (r ≡ record { outcome = insideOutcome profile state (now (mem .entry)) (now (events .entry)) budget; past = runPast profile state (now (mem .entry)) (now (events .entry)) budget }) × (now (mem .exit) ≡ insideMemory profile state (now (mem .entry)) (now (events .entry)) budget) ⌝ }
 {
-    let refusal = run_refusal(state, &mem[..], events, budget);
+    let refusal = run_refusal(profile, state, &mem[..], events, budget);
     if accepts(refusal) {
-        accepted_inside(state, mem, events, budget)
+        accepted_inside(profile, state, mem, events, budget)
     } else {
         Reached {
             outcome: refused(state, refusal),

@@ -1,6 +1,7 @@
 // What a run and a single step answer, refusals first.
 ghost use mathlib.Core.Path.{_≡_};
 ghost use Rattle.run.specs.Outcome.{eventsGood, eventsRefusal, runRefusal, stepRefusal};
+use insn::profile::Profile;
 use machine::refusal::Refusal;
 use machine::refusal::accepts;
 use machine::state::State;
@@ -38,10 +39,16 @@ fn events_refusal(events: &[u8]) -> Refusal
 }
 
 // A run checks 1, 2, 3, 4, 5.
-pub fn run_refusal(state: State, mem: &[u8], events: &[u8], budget: u32) -> Refusal
-    ensures { λ r. ⌜ r ≡ runRefusal state (now (mem .entry)) (now (events .entry)) budget ⌝ }
+pub fn run_refusal(
+    profile: Profile,
+    state: State,
+    mem: &[u8],
+    events: &[u8],
+    budget: u32,
+) -> Refusal
+    ensures { λ r. ⌜ r ≡ runRefusal profile state (now (mem .entry)) (now (events .entry)) budget ⌝ }
 {
-    let start = state.start_refusal(mem.len());
+    let start = state.start_refusal(profile, mem.len());
     if !accepts(start) {
         return start;
     }
@@ -52,10 +59,10 @@ pub fn run_refusal(state: State, mem: &[u8], events: &[u8], budget: u32) -> Refu
 }
 
 // A single step checks 1, 2, 3, 5.
-pub fn step_refusal(state: State, mem: &[u8], event: u8) -> Refusal
-    ensures { λ r. ⌜ r ≡ stepRefusal state (now (mem .entry)) event ⌝ }
+pub fn step_refusal(profile: Profile, state: State, mem: &[u8], event: u8) -> Refusal
+    ensures { λ r. ⌜ r ≡ stepRefusal profile state (now (mem .entry)) event ⌝ }
 {
-    let start = state.start_refusal(mem.len());
+    let start = state.start_refusal(profile, mem.len());
     if !accepts(start) {
         return start;
     }

@@ -7,6 +7,7 @@ use crate::outcome::run_refusal;
 use crate::run::Stop;
 use crate::run::event_at;
 use crate::run::refused;
+use insn::profile::Profile;
 use machine::refusal::Refusal;
 use machine::refusal::accepts;
 use machine::state::State;
@@ -20,8 +21,14 @@ pub struct Reached {
 }
 
 // The run's loop: the mark of a reach is told and taken off after its step.
-fn accepted_reach(start: State, mem: &mut [u8], events: &[u8], budget: u32) -> Reached
-    ensures { λ r. ⌜ (r ≡ record { outcome = accepted (runOf budget 0 (now (events .entry)) start (now (mem .entry))); past = pastOf budget 0 (now (events .entry)) start (now (mem .entry)) }) × (now (mem .exit) ≡ runOf budget 0 (now (events .entry)) start (now (mem .entry)) .mem) ⌝ }
+fn accepted_reach(
+    profile: Profile,
+    start: State,
+    mem: &mut [u8],
+    events: &[u8],
+    budget: u32,
+) -> Reached
+    ensures { λ r. ⌜ (r ≡ record { outcome = accepted (runOf profile budget 0 (now (events .entry)) start (now (mem .entry))); past = pastOf profile budget 0 (now (events .entry)) start (now (mem .entry)) }) × (now (mem .exit) ≡ runOf profile budget 0 (now (events .entry)) start (now (mem .entry)) .mem) ⌝ }
 {
     let mut s = start;
     let mut i = 0;
@@ -39,7 +46,7 @@ fn accepted_reach(start: State, mem: &mut [u8], events: &[u8], budget: u32) -> R
                 steps: i,
             };
         }
-        s = step_marked(s, mem, event_at(events, i));
+        s = step_marked(profile, s, mem, event_at(events, i));
         i += 1;
         if s.halt >= 8 {
             past = true;
@@ -57,12 +64,18 @@ fn accepted_reach(start: State, mem: &mut [u8], events: &[u8], budget: u32) -> R
     }
 }
 
-pub fn run_reach(state: State, mem: &mut [u8], events: &[u8], budget: u32) -> Reached
-    ensures { λ r. ⌜ (r ≡ record { outcome = runOutcome state (now (mem .entry)) (now (events .entry)) budget; past = runPast state (now (mem .entry)) (now (events .entry)) budget }) × (now (mem .exit) ≡ runMemory state (now (mem .entry)) (now (events .entry)) budget) ⌝ }
+pub fn run_reach(
+    profile: Profile,
+    state: State,
+    mem: &mut [u8],
+    events: &[u8],
+    budget: u32,
+) -> Reached
+    ensures { λ r. ⌜ (r ≡ record { outcome = runOutcome profile state (now (mem .entry)) (now (events .entry)) budget; past = runPast profile state (now (mem .entry)) (now (events .entry)) budget }) × (now (mem .exit) ≡ runMemory profile state (now (mem .entry)) (now (events .entry)) budget) ⌝ }
 {
-    let refusal = run_refusal(state, &mem[..], events, budget);
+    let refusal = run_refusal(profile, state, &mem[..], events, budget);
     if accepts(refusal) {
-        accepted_reach(state, mem, events, budget)
+        accepted_reach(profile, state, mem, events, budget)
     } else {
         Reached {
             outcome: refused(state, refusal),

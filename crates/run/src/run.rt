@@ -6,6 +6,7 @@ ghost use Rattle.run.specs.Outcome.{refusedWith, accepted, runOutcome, r
 use crate::outcome::Outcome;
 use crate::outcome::run_refusal;
 use crate::outcome::step_refusal;
+use insn::profile::Profile;
 use machine::refusal::Refusal;
 use machine::refusal::accepts;
 use machine::state::State;
@@ -25,8 +26,14 @@ pub fn event_at(events: &[u8], i: u32) -> u8
 }
 
 // Steps until one halts or the budget is used.
-fn accepted_run(start: State, mem: &mut [u8], events: &[u8], budget: u32) -> Outcome
-    ensures { λ r. ⌜ (r ≡ accepted (runOf budget 0 (now (events .entry)) start (now (mem .entry)))) × (now (mem .exit) ≡ runOf budget 0 (now (events .entry)) start (now (mem .entry)) .mem) ⌝ }
+fn accepted_run(
+    profile: Profile,
+    start: State,
+    mem: &mut [u8],
+    events: &[u8],
+    budget: u32,
+) -> Outcome
+    ensures { λ r. ⌜ (r ≡ accepted (runOf profile budget 0 (now (events .entry)) start (now (mem .entry)))) × (now (mem .exit) ≡ runOf profile budget 0 (now (events .entry)) start (now (mem .entry)) .mem) ⌝ }
 {
     let mut s = start;
     let mut i = 0;
@@ -43,7 +50,7 @@ fn accepted_run(start: State, mem: &mut [u8], events: &[u8], budget: u32) -> Out
                 steps: i,
             };
         }
-        s = s.step(mem, event_at(events, i));
+        s = s.step(profile, mem, event_at(events, i));
         i += 1;
     };
     Outcome {
@@ -66,25 +73,25 @@ pub fn refused(state: State, refusal: Refusal) -> Outcome
     }
 }
 
-pub fn run(state: State, mem: &mut [u8], events: &[u8], budget: u32) -> Outcome
-    ensures { λ r. ⌜ (r ≡ runOutcome state (now (mem .entry)) (now (events .entry)) budget) × (now (mem .exit) ≡ runMemory state (now (mem .entry)) (now (events .entry)) budget) ⌝ }
+pub fn run(profile: Profile, state: State, mem: &mut [u8], events: &[u8], budget: u32) -> Outcome
+    ensures { λ r. ⌜ (r ≡ runOutcome profile state (now (mem .entry)) (now (events .entry)) budget) × (now (mem .exit) ≡ runMemory profile state (now (mem .entry)) (now (events .entry)) budget) ⌝ }
 {
-    let refusal = run_refusal(state, &mem[..], events, budget);
+    let refusal = run_refusal(profile, state, &mem[..], events, budget);
     if accepts(refusal) {
-        accepted_run(state, mem, events, budget)
+        accepted_run(profile, state, mem, events, budget)
     } else {
         refused(state, refusal)
     }
 }
 
 // One step: a run of one, with one event.
-pub fn step(state: State, mem: &mut [u8], event: u8) -> Outcome
-    ensures { λ r. ⌜ (r ≡ stepOutcome state (now (mem .entry)) event) × (now (mem .exit) ≡ stepMemory state (now (mem .entry)) event) ⌝ }
+pub fn step(profile: Profile, state: State, mem: &mut [u8], event: u8) -> Outcome
+    ensures { λ r. ⌜ (r ≡ stepOutcome profile state (now (mem .entry)) event) × (now (mem .exit) ≡ stepMemory profile state (now (mem .entry)) event) ⌝ }
 {
-    let refusal = step_refusal(state, &mem[..], event);
+    let refusal = step_refusal(profile, state, &mem[..], event);
     if accepts(refusal) {
         let events = [event];
-        accepted_run(state, mem, &events, 1)
+        accepted_run(profile, state, mem, &events, 1)
     } else {
         refused(state, refusal)
     }

@@ -9,13 +9,15 @@ use lib.Dec.{eqb}
 use lib.ListN.{length, getD}
 use Rattle.expr.specs.Grammar.{pick, isDigit}
 use Rattle.expr.proofs.Cases.{split-lt, and-true, clash}
+use Rattle.insn.specs.declared.profile.Profile.{Profile}
 use Rattle.insn.specs.declared.instr.Instr.{Instr}
 use Rattle.insn.specs.declared.instr.System.{System}
 use Rattle.syntax.specs.Text.{bytes}
-use Rattle.syntax.specs.Syntax.{Item, lit, reg, zreg, num, letters, commas, spelt, itemsOf, shapeOf}
+use Rattle.syntax.specs.Syntax.{Item, lit, reg, zreg, num, letters, commas, spelt, spelledOn, itemsOf, shapeOf}
 use Rattle.syntax.specs.Line.{Part, byte, Line, line-end, line-more, fits-lit, texts, textOf}
 use Rattle.syntax.specs.Take.{endsReg, endsNum, followed, apart, wellMade}
 use Rattle.syntax.specs.Rows.{samples, samplesA, samplesB, samplesC, samplesD, samplesE, samplesL, samplesM, samplesN, samplesO, samplesR, samplesS, samplesT, samplesW, samplesX, rowOf}
+use Rattle.syntax.proofs.Spelled.{spelled-42x}
 use Rattle.syntax.proofs.Samples.{sample-shape, sample-at, row-in}
 use Rattle.syntax.proofs.Rows.{differ, differ-texts}
 
@@ -46,12 +48,22 @@ ordered c (i ∷ is) = (headIs c (shapeOf i) && wellMade (shapeOf i)) && (apartF
 abbrev Ordered : ℕ → List Instr → Type 0
 Ordered c is = ordered c is ≡ true
 
-all-ordered : (c : ℕ) → Ordered c (samples c)
-unfolding samples samplesA samplesB samplesC samplesD samplesE samplesL samplesM samplesN samplesO samplesR samplesS samplesT samplesW samplesX ordered headIs apartFrom differ wellMade apart isDigit shapeOf itemsOf spelt commas letters bytes
-all-ordered c =
+ordered-m : (p : Profile) → Ordered 109 (samplesM p)
+unfolding samplesM ordered headIs apartFrom differ wellMade apart isDigit shapeOf itemsOf spelt commas letters bytes
+ordered-m Profile.Ppe42 = refl
+ordered-m Profile.Ppe42x = refl
+
+ordered-r : (p : Profile) → Ordered 114 (samplesR p)
+unfolding samplesR ordered headIs apartFrom differ wellMade apart isDigit shapeOf itemsOf spelt commas letters bytes
+ordered-r Profile.Ppe42 = refl
+ordered-r Profile.Ppe42x = refl
+
+all-ordered : (p : Profile) (c : ℕ) → Ordered c (samples p c)
+unfolding samples samplesA samplesB samplesC samplesD samplesE samplesL samplesN samplesO samplesS samplesT samplesW samplesX ordered headIs apartFrom differ wellMade apart isDigit shapeOf itemsOf spelt commas letters bytes
+all-ordered p c =
     at-letter Ordered c 97 samplesA _ refl (at-letter Ordered c 98 samplesB _ refl (at-letter Ordered c 99 samplesC _ refl (at-letter Ordered c 100 samplesD _ refl
-    (at-letter Ordered c 101 samplesE _ refl (at-letter Ordered c 108 samplesL _ refl (at-letter Ordered c 109 samplesM _ refl (at-letter Ordered c 110 samplesN _ refl
-    (at-letter Ordered c 111 samplesO _ refl (at-letter Ordered c 114 samplesR _ refl (at-letter Ordered c 115 samplesS _ refl (at-letter Ordered c 116 samplesT _ refl
+    (at-letter Ordered c 101 samplesE _ refl (at-letter Ordered c 108 samplesL _ refl (at-letter Ordered c 109 (samplesM p) _ (ordered-m p) (at-letter Ordered c 110 samplesN _ refl
+    (at-letter Ordered c 111 samplesO _ refl (at-letter Ordered c 114 (samplesR p) _ (ordered-r p) (at-letter Ordered c 115 samplesS _ refl (at-letter Ordered c 116 samplesT _ refl
     (at-letter Ordered c 119 samplesW _ refl (at-letter Ordered c 120 samplesX _ refl refl)))))))))))))
 
 ordered-parts : (c : ℕ) (i : Instr) (is : List Instr) → Ordered c (i ∷ is) → ((headIs c (shapeOf i) ≡ true) × (wellMade (shapeOf i) ≡ true)) × ((apartFrom i is ≡ true) × (ordered c is ≡ true))
@@ -82,14 +94,49 @@ abbrev pub some : Instr
 some = Instr.System System.Sync
 
 -- sample n of a letter
-abbrev pub sampleAt : ℕ → ℕ → Instr
-sampleAt c n = getD (samples c) n some
+abbrev pub sampleAt : Profile → ℕ → ℕ → Instr
+sampleAt p c n = getD (samples p c) n some
 
-pub one-row : (c n m : ℕ) (ps qs : List Part) → n < length (samples c) → m < length (samples c) → Line (shapeOf (sampleAt c n)) ps → Line (shapeOf (sampleAt c m)) qs → texts ps ≡ texts qs → n ≡ m
-one-row c n m ps qs l k x y e =
+-- a core's samples have its mnemonics
+unfoldable allSpelled : Profile → List Instr → Bool
+allSpelled p [] = true
+allSpelled p (i ∷ is) = spelledOn p i && allSpelled p is
+
+abbrev AllSpelled : Profile → ℕ → List Instr → Type 0
+AllSpelled p c is = allSpelled p is ≡ true
+
+spelled-m : (p : Profile) → allSpelled p (samplesM p) ≡ true
+unfolding samplesM allSpelled
+spelled-m Profile.Ppe42 = refl
+spelled-m Profile.Ppe42x = refl
+
+spelled-r : (p : Profile) → allSpelled p (samplesR p) ≡ true
+unfolding samplesR allSpelled
+spelled-r Profile.Ppe42 = refl
+spelled-r Profile.Ppe42x = refl
+
+all-spelled : (p : Profile) (c : ℕ) → AllSpelled p c (samples p c)
+unfolding samples samplesA samplesB samplesC samplesD samplesE samplesL samplesN samplesO samplesS samplesT samplesW samplesX allSpelled
+all-spelled p c =
+    at-letter (AllSpelled p) c 97 samplesA _ refl (at-letter (AllSpelled p) c 98 samplesB _ refl (at-letter (AllSpelled p) c 99 samplesC _ refl (at-letter (AllSpelled p) c 100 samplesD _ refl
+    (at-letter (AllSpelled p) c 101 samplesE _ refl (at-letter (AllSpelled p) c 108 samplesL _ refl (at-letter (AllSpelled p) c 109 (samplesM p) _ (spelled-m p) (at-letter (AllSpelled p) c 110 samplesN _ refl
+    (at-letter (AllSpelled p) c 111 samplesO _ refl (at-letter (AllSpelled p) c 114 (samplesR p) _ (spelled-r p) (at-letter (AllSpelled p) c 115 samplesS _ refl (at-letter (AllSpelled p) c 116 samplesT _ refl
+    (at-letter (AllSpelled p) c 119 samplesW _ refl (at-letter (AllSpelled p) c 120 samplesX _ refl refl)))))))))))))
+
+spelled-in : (p : Profile) (is : List Instr) (n : ℕ) (d : Instr) → allSpelled p is ≡ true → n < length is → spelledOn p (getD is n d) ≡ true
+unfolding allSpelled
+spelled-in p [] n d e l = let z : ⊥ = omega arith in absurd z
+spelled-in p (i ∷ is) zero d e l = and-true (spelledOn p i) (allSpelled p is) e .0
+spelled-in p (i ∷ is) (suc n) d e l = spelled-in p is n d (and-true (spelledOn p i) (allSpelled p is) e .1) (omega arith)
+
+pub sample-spelled : (p : Profile) (c n : ℕ) → n < length (samples p c) → spelledOn p (sampleAt p c n) ≡ true
+sample-spelled p c n l = spelled-in p (samples p c) n some (all-spelled p c) l
+
+pub one-row : (p : Profile) (c n m : ℕ) (ps qs : List Part) → n < length (samples p c) → m < length (samples p c) → Line (shapeOf (sampleAt p c n)) ps → Line (shapeOf (sampleAt p c m)) qs → texts ps ≡ texts qs → n ≡ m
+one-row p c n m ps qs l k x y e =
     split-lt n m
-    (λ a. let z : ⊥ = differ-texts _ _ ps qs (differ-at c (samples c) n m some (all-ordered c) a k) x y e in absurd z)
-    (λ a. split-lt m n (λ b. let z : ⊥ = differ-texts _ _ qs ps (differ-at c (samples c) m n some (all-ordered c) b l) y x (sym e) in absurd z) (λ b. omega arith))
+    (λ a. let z : ⊥ = differ-texts _ _ ps qs (differ-at c (samples p c) n m some (all-ordered p c) a k) x y e in absurd z)
+    (λ a. split-lt m n (λ b. let z : ⊥ = differ-texts _ _ qs ps (differ-at c (samples p c) m n some (all-ordered p c) b l) y x (sym e) in absurd z) (λ b. omega arith))
 
 head-text : (c : ℕ) (xs : List Item) (ps : List Part) (a : ℕ) (w : List ℕ) → headIs c xs ≡ true → Line xs ps → texts ps ≡ a ∷ w → c ≡ a
 unfolding headIs texts textOf
@@ -107,27 +154,29 @@ head-some c (reg ∷ xs) ps h l e = clash h
 head-some c (zreg ∷ xs) ps h l e = clash h
 head-some c (num r ∷ xs) ps h l e = clash h
 
-shape-at : (i : Instr) → shapeOf i ≡ shapeOf (sampleAt (rowOf i .letter) (rowOf i .row))
-shape-at i = sample-shape i ∙ ap shapeOf (sym (sample-at i some))
+shape-at : (p : Profile) (i : Instr) → spelledOn p i ≡ true → shapeOf i ≡ shapeOf (sampleAt p (rowOf i .letter) (rowOf i .row))
+shape-at p i h = sample-shape i ∙ ap shapeOf (sym (sample-at p i some h))
 
 head-of : (i : Instr) → (headIs (rowOf i .letter) (shapeOf i) ≡ true) × (wellMade (shapeOf i) ≡ true)
-head-of i = rw (shape-at i) (head-at (rowOf i .letter) (samples (rowOf i .letter)) (rowOf i .row) some (all-ordered (rowOf i .letter)) (row-in i))
+head-of i =
+    let p : Profile = Profile.Ppe42x in
+    rw (shape-at p i (spelled-42x i)) (head-at (rowOf i .letter) (samples p (rowOf i .letter)) (rowOf i .row) some (all-ordered p (rowOf i .letter)) (row-in p i (spelled-42x i)))
 
--- the row among those of a line's first byte that an instruction's lines are in
-pub record InRow (i : Instr) (c : ℕ) : Type 0 where
+-- the row among a core's of a line's first byte that an instruction's lines are in
+pub record InRow (p : Profile) (i : Instr) (c : ℕ) : Type 0 where
   pub row : ℕ
-  pub listed : row < length (samples c)
-  pub shape : shapeOf i ≡ shapeOf (sampleAt c row)
+  pub listed : row < length (samples p c)
+  pub shape : shapeOf i ≡ shapeOf (sampleAt p c row)
   pub here : rowOf i .letter ≡ c
   pub where-it-is : rowOf i .row ≡ row
 
-pub in-row : (i : Instr) (ps : List Part) (c : ℕ) (w : List ℕ) → Line (shapeOf i) ps → texts ps ≡ c ∷ w → InRow i c
-in-row i ps c w l e =
+pub in-row : (p : Profile) (i : Instr) (ps : List Part) (c : ℕ) (w : List ℕ) → spelledOn p i ≡ true → Line (shapeOf i) ps → texts ps ≡ c ∷ w → InRow p i c
+in-row p i ps c w h l e =
     let q : rowOf i .letter ≡ c = head-text (rowOf i .letter) (shapeOf i) ps c w (head-of i .0) l e in
     record {
       row = rowOf i .row;
-      listed = rw q at (row-in i);
-      shape = subst (λ (x : ℕ). shapeOf i ≡ shapeOf (sampleAt x (rowOf i .row))) q (shape-at i);
+      listed = rw q at (row-in p i h);
+      shape = subst (λ (x : ℕ). shapeOf i ≡ shapeOf (sampleAt p x (rowOf i .row))) q (shape-at p i h);
       here = q;
       where-it-is = refl;
     }

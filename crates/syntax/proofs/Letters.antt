@@ -6,6 +6,7 @@ use mathlib.Core.Bool.{true}
 use mathlib.Core.List.{List, [], _∷_}
 use borrow.Author.Tests.{ne-eqb}
 use lib.ListN.{length}
+use Rattle.insn.specs.declared.profile.Profile.{Profile}
 use Rattle.insn.specs.declared.instr.Instr.{Instr}
 use lib.Seq.{sets}
 use Rattle.syntax.specs.Syntax.{Item}
@@ -38,11 +39,12 @@ read-done t count job s before r e h = rw e (h, refl)
 
 -- ---- by the letter
 
-pub letter-needs : (c k : ℕ) (job : Job) (out : List ℕ) → c ≡ k → Printable (length (samples c)) job out → Printable (length (samples k)) job out
-letter-needs c k job out e p = rw e at p
+module _ (p : Profile) where
+  pub letter-needs : (c k : ℕ) (job : Job) (out : List ℕ) → c ≡ k → Printable (length (samples p c)) job out → Printable (length (samples p k)) job out
+  letter-needs c k job out e h = rw e at h
 
-pub letter-gives : (c k : ℕ) (job : Job) (s before after : List ℕ) (r : Done) → c ≡ k → WithRows (samples k) job s before after r → WithRows (samples c) job s before after r
-letter-gives c k job s before after r e w = rw e w
+  pub letter-gives : (c k : ℕ) (job : Job) (s before after : List ℕ) (r : Done) → c ≡ k → WithRows (samples p k) job s before after r → WithRows (samples p c) job s before after r
+  letter-gives c k job s before after r e w = rw e w
 
 -- what the default knows
 abbrev Misses : Type 0 → List ℕ → ℕ → Type 0
@@ -52,9 +54,9 @@ Misses P (k ∷ ks) c = Misses (P × (c ≡ k → ⊥)) ks c
 abbrev pub NoLetter : ℕ → Type 0
 NoLetter c = Misses (Unit {0}) (97 ∷ 98 ∷ 99 ∷ 100 ∷ 101 ∷ 108 ∷ 109 ∷ 110 ∷ 111 ∷ 114 ∷ 115 ∷ 116 ∷ 119 ∷ 120 ∷ []) c
 
-no-letter : (c : ℕ) → NoLetter c → samples c ≡ []
+no-letter : (p : Profile) (c : ℕ) → NoLetter c → samples p c ≡ []
 unfolding samples
-no-letter c h =
+no-letter p c h =
     rw (ne-eqb c 97 (h .0 .0 .0 .0 .0 .0 .0 .0 .0 .0 .0 .0 .0 .1), ne-eqb c 98 (h .0 .0 .0 .0 .0 .0 .0 .0 .0 .0 .0 .0 .1), ne-eqb c 99 (h .0 .0 .0 .0 .0 .0 .0 .0 .0 .0 .0 .1), ne-eqb c 100 (h .0 .0 .0 .0 .0 .0 .0 .0 .0 .0 .1), ne-eqb c 101 (h .0 .0 .0 .0 .0 .0 .0 .0 .0 .1), ne-eqb c 108 (h .0 .0 .0 .0 .0 .0 .0 .0 .1), ne-eqb c 109 (h .0 .0 .0 .0 .0 .0 .0 .1), ne-eqb c 110 (h .0 .0 .0 .0 .0 .0 .1), ne-eqb c 111 (h .0 .0 .0 .0 .0 .1), ne-eqb c 114 (h .0 .0 .0 .0 .1), ne-eqb c 115 (h .0 .0 .0 .1), ne-eqb c 116 (h .0 .0 .1), ne-eqb c 119 (h .0 .1), ne-eqb c 120 (h .1))
 
 nothing : (job : Job) (s out : List ℕ) → Printable 0 job out → WithRows [] job s out out (Done.Bad 0)
@@ -62,8 +64,8 @@ unfolding matches matchesFrom rowsFrom
 nothing Job.Read s out p = record { rows = []; right = refl; done = refl; out = refl }
 nothing (Job.Print n q) s out p = let z : ⊥ = omega (arith, p .0) in absurd z
 
-pub none-given : (c : ℕ) (job : Job) (s out : List ℕ) → NoLetter c → Printable (length (samples c)) job out → WithRows (samples c) job s out out (Done.Bad 0)
-none-given c job s out h p = let e : samples c ≡ [] = no-letter c h in rw e (nothing job s out (rw e at p))
+pub none-given : (p : Profile) (c : ℕ) (job : Job) (s out : List ℕ) → NoLetter c → Printable (length (samples p c)) job out → WithRows (samples p c) job s out out (Done.Bad 0)
+none-given p c job s out h b = let e : samples p c ≡ [] = no-letter p c h in rw e (nothing job s out (rw e at b))
 
 -- ---- a row printed
 

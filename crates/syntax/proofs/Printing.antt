@@ -72,21 +72,22 @@ times-fits u n p q = omega (arith, mul-le-mul-right n p)
 
 -- the text of a number by its letter, as the code asks
 pub number-text : (c n : ℕ)
-    → numberText (rangeOf c) n ≡ pick (eqb c 83) (signedText 1 0x8000 n) (pick (eqb c 85 || eqb c 78 || eqb c 67 || eqb c 80 || eqb c 69) (decimal 8 n) (pick (eqb c 74) (signedText 4 0x80_0000 n) (signedText 4 0x2000 n)))
+    → numberText (rangeOf c) n ≡ pick (eqb c 83) (signedText 1 0x8000 n) (pick (eqb c 85 || eqb c 78 || eqb c 76 || eqb c 67 || eqb c 80 || eqb c 69) (decimal 8 n) (pick (eqb c 74) (signedText 4 0x80_0000 n) (signedText 4 0x2000 n)))
 unfolding rangeOf
-number-text c n = by (eqb c 83) (eqb c 85) (eqb c 78) (eqb c 67) (eqb c 80) (eqb c 69) (eqb c 74)
+number-text c n = by (eqb c 83) (eqb c 85) (eqb c 78) (eqb c 76) (eqb c 67) (eqb c 80) (eqb c 69) (eqb c 74)
   where
-    by : (s u f b p e j : Bool)
-        → numberText (pick s (signed 0x8000) (pick u (unsigned 0x1_0000) (pick f (unsigned 32) (pick b (unsigned 4) (pick p (unsigned 1024) (pick e (unsigned 2) (pick j (target 0x80_0000) (target 0x2000)))))))) n
-        ≡ pick s (signedText 1 0x8000 n) (pick (u || f || b || p || e) (decimal 8 n) (pick j (signedText 4 0x80_0000 n) (signedText 4 0x2000 n)))
-    by true u f b p e j = refl
-    by false true f b p e j = refl
-    by false false true b p e j = refl
-    by false false false true p e j = refl
-    by false false false false true e j = refl
-    by false false false false false true j = refl
-    by false false false false false false true = refl
-    by false false false false false false false = refl
+    by : (s u f l b p e j : Bool)
+        → numberText (pick s (signed 0x8000) (pick u (unsigned 0x1_0000) (pick f (unsigned 32) (pick l (unsigned 64) (pick b (unsigned 4) (pick p (unsigned 1024) (pick e (unsigned 2) (pick j (target 0x80_0000) (target 0x2000))))))))) n
+        ≡ pick s (signedText 1 0x8000 n) (pick (u || f || l || b || p || e) (decimal 8 n) (pick j (signedText 4 0x80_0000 n) (signedText 4 0x2000 n)))
+    by true u f l b p e j = refl
+    by false true f l b p e j = refl
+    by false false true l b p e j = refl
+    by false false false true b p e j = refl
+    by false false false false true p e j = refl
+    by false false false false false true e j = refl
+    by false false false false false false true j = refl
+    by false false false false false false false true = refl
+    by false false false false false false false false = refl
 
 -- an operand takes at most nine bytes
 pub signed-length : (unit h n : ℕ) → length (signedText unit h n) ≤ 9

@@ -18,7 +18,6 @@ use Rattle.syntax.specs.Syntax.{Range, signed, unsigned, target, Item, l
 use Rattle.syntax.specs.Line.{Part, byte, Line, line-end, line-more, fits-lit, texts, textOf}
 use Rattle.syntax.specs.Take.{Result, all, stopped, takeLine, wellMade}
 use Rattle.syntax.specs.Inside.{patternAt, wordAt, eqItem, eqItems, eqRange, operandCount, wide, wellFormed, rowMatches, matchesFrom, matches, noOperands, gathered, spotWith, spotOf, larger, tried, rowsFrom}
-use Rattle.syntax.specs.Rows.{samples}
 use Rattle.syntax.specs.declared.line.Operands.{Operands}
 use Rattle.syntax.specs.declared.line.Spot.{Spot}
 use Rattle.syntax.specs.declared.table.Done.{Done}
@@ -105,11 +104,11 @@ rows-right (i ∷ is) m t (suc n) d e l =
 
 pub right-at : (is : List Instr) (t : List ℕ) (n : ℕ) (d : Instr) → matches t is ≡ true → n < length is → Right t n (getD is n d)
 unfolding matches
-right-at is t n d e l = let b : (eqb (length t) (length is * 28) ≡ true) × (matchesFrom 0 t is ≡ true) = and-true _ _ e in rw zero-add at (rows-right is 0 t n d (b .1) l)
+right-at is t n d e l = let b : (leb (length is * 28) (length t) ≡ true) × (matchesFrom 0 t is ≡ true) = and-true _ _ e in rw zero-add at (rows-right is 0 t n d (b .1) l)
 
-pub rows-length : (is : List Instr) (t : List ℕ) → matches t is ≡ true → length t ≡ length is * 28
+pub rows-length : (is : List Instr) (t : List ℕ) → matches t is ≡ true → length is * 28 ≤ length t
 unfolding matches
-rows-length is t e = let b : (eqb (length t) (length is * 28) ≡ true) × (matchesFrom 0 t is ≡ true) = and-true _ _ e in eqb-true _ _ (b .0)
+rows-length is t e = let b : (leb (length is * 28) (length t) ≡ true) × (matchesFrom 0 t is ≡ true) = and-true _ _ e in leb-true _ _ (b .0)
 
 -- ---- the rows one after the other
 

@@ -10,6 +10,7 @@ use lib.Seq.{getD-drop}
 use Rattle.word.specs.Bits.{digit}
 use Rattle.insn.specs.Valid.{validOf, regOf, isSpr, readOnly}
 use Rattle.word.specs.declared.width.Width.{Width}
+use Rattle.insn.specs.declared.profile.Profile.{Profile}
 use Rattle.insn.specs.declared.instr.Instr.{Instr}
 use Rattle.insn.specs.declared.instr.Arithmetic.{Arithmetic}
 use Rattle.insn.specs.declared.instr.Logical.{Logical}
@@ -25,14 +26,16 @@ use Rattle.insn.specs.declared.instr.LogicImmOp.{LogicImmOp}
 use Rattle.insn.specs.declared.instr.LogicOp.{LogicOp}
 use Rattle.insn.specs.declared.instr.LogicOneOp.{LogicOneOp}
 use Rattle.insn.specs.declared.instr.RotateOp.{RotateOp}
+use Rattle.insn.specs.declared.instr.RotateDoubleOp.{RotateDoubleOp}
 use Rattle.insn.specs.declared.instr.ShiftOp.{ShiftOp}
 use Rattle.insn.specs.declared.instr.BranchOp.{BranchOp}
 use Rattle.insn.specs.declared.instr.MoveOp.{MoveOp}
 use Rattle.insn.specs.declared.instr.SprOp.{SprOp}
 use Rattle.insn.specs.declared.instr.CacheOp.{CacheOp}
 use Rattle.insn.specs.declared.instr.Sign.{Sign}
-use Rattle.syntax.specs.Syntax.{Item, lit, Piece, letter, letters, commas, spelt, plain, itemsOf, shapeOf}
-use Rattle.syntax.specs.Rows.{sampleOf, samples, samplesA, samplesB, samplesC, samplesD, samplesE, samplesL, samplesM, samplesN, samplesO, samplesR, samplesS, samplesT, samplesW, samplesX, at, rowAfter, arithImmRow, arithRow, arithOneRow, multiplyRow, logicImmRow, logicRow, logicOneRow, compareImmRow, compareRow, rotateRow, shiftRow, loadRow, loadIndexedRow, storeRow, storeIndexedRow, branchRow, sprRow, moveRow, cacheRow, rowOf}
+use Rattle.expr.proofs.Cases.{clash}
+use Rattle.syntax.specs.Syntax.{Item, lit, Piece, letter, letters, commas, spelt, plain, spelledOn, itemsOf, shapeOf}
+use Rattle.syntax.specs.Rows.{sampleOf, samples, samplesA, samplesB, samplesC, samplesD, samplesE, samplesL, samplesM, samplesN, samplesO, samplesR, samplesS, samplesT, samplesW, samplesX, at, rowAfter, arithImmRow, arithRow, arithOneRow, multiplyRow, logicImmRow, logicRow, logicOneRow, compareImmRow, compareRow, rotateRow, rotateDoubleRow, shiftRow, loadRow, loadIndexedRow, storeRow, storeIndexedRow, branchRow, sprRow, moveRow, cacheRow, rowOf}
 use Rattle.syntax.specs.declared.row.Row.{Row}
 
 -- the operands after a mnemonic
@@ -70,6 +73,8 @@ sampled (Instr.Arithmetic (Arithmetic.Immediate op rt ra si)) =
 sampled (Instr.Arithmetic (Arithmetic.Register op rt ra rb oe rc)) = (refl, refl, alike _ _ _ _ _ refl)
 sampled (Instr.Arithmetic (Arithmetic.One op rt ra oe rc)) = (refl, refl, alike _ _ _ _ _ refl)
 sampled (Instr.Arithmetic (Arithmetic.Multiply sign rt ra rb rc)) = (refl, refl, alike _ _ _ _ _ refl)
+sampled (Instr.Arithmetic (Arithmetic.MultiplyImm rt ra si)) = (refl, refl, alike _ _ _ _ _ refl)
+sampled (Instr.Arithmetic (Arithmetic.MultiplyLow rt ra rb oe rc)) = (refl, refl, alike _ _ _ _ _ refl)
 sampled (Instr.Logical (Logical.Immediate op rs ra ui)) = (refl, refl, alike _ _ _ _ _ refl)
 sampled (Instr.Logical (Logical.Register op rs ra rb rc)) = (refl, refl, alike _ _ _ _ _ refl)
 sampled (Instr.Logical (Logical.One op rs ra rc)) = (refl, refl, alike _ _ _ _ _ refl)
@@ -79,6 +84,7 @@ sampled (Instr.Rotate (Rotate.Immediate op rs ra sh mb me rc)) = (refl, refl, al
 sampled (Instr.Rotate (Rotate.Register rs ra rb mb me rc)) = (refl, refl, alike _ _ _ _ _ refl)
 sampled (Instr.Rotate (Rotate.Shift op rs ra rb rc)) = (refl, refl, alike _ _ _ _ _ refl)
 sampled (Instr.Rotate (Rotate.Srawi rs ra sh rc)) = (refl, refl, alike _ _ _ _ _ refl)
+sampled (Instr.Rotate (Rotate.Double op ds da sh mb rc)) = (refl, refl, alike _ _ _ _ _ refl)
 sampled (Instr.LoadStore (LoadStore.Load width true rt ra d)) = (refl, refl, alike _ _ _ _ _ refl)
 sampled (Instr.LoadStore (LoadStore.Load width false rt ra d)) = (refl, refl, alike _ _ _ _ _ refl)
 sampled (Instr.LoadStore (LoadStore.LoadIndexed width rt ra rb)) = (refl, refl, alike _ _ _ _ _ refl)
@@ -110,201 +116,213 @@ sample-plain i = sampled i .1
 pub sample-shape : (i : Instr) → shapeOf i ≡ shapeOf (sampleOf i)
 sample-shape i = sampled i .2
 
--- what stands in a row of the samples
-abbrev In : Row → Instr → Type 0
-In r i = ((d : Instr) → getD (samples (r .letter)) (r .row) d ≡ i) × (r .row < length (samples (r .letter)))
+-- what stands in a row of a core's samples
+abbrev In : Profile → Row → Instr → Type 0
+In p r i = ((d : Instr) → getD (samples p (r .letter)) (r .row) d ≡ i) × (r .row < length (samples p (r .letter)))
 
 -- the rows from one on
-abbrev From : Row → List Instr → Type 0
-From r is = drop (r .row) (samples (r .letter)) ≡ is
+abbrev From : Profile → Row → List Instr → Type 0
+From p r is = drop (r .row) (samples p (r .letter)) ≡ is
 
-from-in : (r : Row) (is : List Instr) (k : ℕ) (i : Instr) → From r is → ((d : Instr) → getD is k d ≡ i) → k < length is → In (rowAfter r k) i
-from-in r is k i e g h = (λ d. sym (getD-drop (r .row) (samples (r .letter)) k d) ∙ ap (λ (xs : List Instr). getD xs k d) e ∙ g d, omega (arith, simp length-drop at (ap length e)))
+from-in : (p : Profile) (r : Row) (is : List Instr) (k : ℕ) (i : Instr) → From p r is → ((d : Instr) → getD is k d ≡ i) → k < length is → In p (rowAfter r k) i
+from-in p r is k i e g h = (λ d. sym (getD-drop (r .row) (samples p (r .letter)) k d) ∙ ap (λ (xs : List Instr). getD xs k d) e ∙ g d, omega (arith, simp length-drop at (ap length e)))
 
 -- a row for each setting of a flag, or of two
-data Two (r : Row) (f : Bool → Instr) : Type 0 where
-  two : (rest : List Instr) → From r (f false ∷ f true ∷ rest) → Two r f
+data Two (p : Profile) (r : Row) (f : Bool → Instr) : Type 0 where
+  two : (rest : List Instr) → From p r (f false ∷ f true ∷ rest) → Two p r f
 
-data Four (r : Row) (f : Bool → Bool → Instr) : Type 0 where
-  four : (rest : List Instr) → From r (f false false ∷ f false true ∷ f true false ∷ f true true ∷ rest) → Four r f
+data Four (p : Profile) (r : Row) (f : Bool → Bool → Instr) : Type 0 where
+  four : (rest : List Instr) → From p r (f false false ∷ f false true ∷ f true false ∷ f true true ∷ rest) → Four p r f
 
-two-in : {r : Row} {f : Bool → Instr} → Two r f → (b : Bool) → In (rowAfter r (digit b)) (f b)
-two-in {r} (two rest e) false = from-in r _ 0 _ e (λ d. refl) (omega arith)
-two-in {r} (two rest e) true = from-in r _ 1 _ e (λ d. refl) (omega arith)
+two-in : {p : Profile} {r : Row} {f : Bool → Instr} → Two p r f → (b : Bool) → In p (rowAfter r (digit b)) (f b)
+two-in {p} {r} (two rest e) false = from-in p r _ 0 _ e (λ d. refl) (omega arith)
+two-in {p} {r} (two rest e) true = from-in p r _ 1 _ e (λ d. refl) (omega arith)
 
-four-in : {r : Row} {f : Bool → Bool → Instr} → Four r f → (b c : Bool) → In (rowAfter r (2 * digit b + digit c)) (f b c)
-four-in {r} (four rest e) false false = from-in r _ 0 _ e (λ d. refl) (omega arith)
-four-in {r} (four rest e) false true = from-in r _ 1 _ e (λ d. refl) (omega arith)
-four-in {r} (four rest e) true false = from-in r _ 2 _ e (λ d. refl) (omega arith)
-four-in {r} (four rest e) true true = from-in r _ 3 _ e (λ d. refl) (omega arith)
+four-in : {p : Profile} {r : Row} {f : Bool → Bool → Instr} → Four p r f → (b c : Bool) → In p (rowAfter r (2 * digit b + digit c)) (f b c)
+four-in {p} {r} (four rest e) false false = from-in p r _ 0 _ e (λ d. refl) (omega arith)
+four-in {p} {r} (four rest e) false true = from-in p r _ 1 _ e (λ d. refl) (omega arith)
+four-in {p} {r} (four rest e) true false = from-in p r _ 2 _ e (λ d. refl) (omega arith)
+four-in {p} {r} (four rest e) true true = from-in p r _ 3 _ e (λ d. refl) (omega arith)
 
-imm-in : (op : ArithImmOp) → In (arithImmRow op) (Instr.Arithmetic (Arithmetic.Immediate op 0 0 0))
+imm-in : (p : Profile) (op : ArithImmOp) → In p (arithImmRow op) (Instr.Arithmetic (Arithmetic.Immediate op 0 0 0))
 unfolding samples samplesA samplesS
-imm-in ArithImmOp.Addi = (λ d. refl, lit< tt)
-imm-in ArithImmOp.Addis = (λ d. refl, lit< tt)
-imm-in ArithImmOp.Addic = (λ d. refl, lit< tt)
-imm-in ArithImmOp.AddicDot = (λ d. refl, lit< tt)
-imm-in ArithImmOp.Subfic = (λ d. refl, lit< tt)
+imm-in p ArithImmOp.Addi = (λ d. refl, lit< tt)
+imm-in p ArithImmOp.Addis = (λ d. refl, lit< tt)
+imm-in p ArithImmOp.Addic = (λ d. refl, lit< tt)
+imm-in p ArithImmOp.AddicDot = (λ d. refl, lit< tt)
+imm-in p ArithImmOp.Subfic = (λ d. refl, lit< tt)
 
-sum-rows : (op : ArithOp) → Four (arithRow op) (λ (b c : Bool). Instr.Arithmetic (Arithmetic.Register op 0 0 0 b c))
+sum-rows : (p : Profile) (op : ArithOp) → Four p (arithRow op) (λ (b c : Bool). Instr.Arithmetic (Arithmetic.Register op 0 0 0 b c))
 unfolding samples samplesA samplesS
-sum-rows ArithOp.Add = four _ refl
-sum-rows ArithOp.Addc = four _ refl
-sum-rows ArithOp.Adde = four _ refl
-sum-rows ArithOp.Subf = four _ refl
-sum-rows ArithOp.Subfc = four _ refl
-sum-rows ArithOp.Subfe = four _ refl
+sum-rows p ArithOp.Add = four _ refl
+sum-rows p ArithOp.Addc = four _ refl
+sum-rows p ArithOp.Adde = four _ refl
+sum-rows p ArithOp.Subf = four _ refl
+sum-rows p ArithOp.Subfc = four _ refl
+sum-rows p ArithOp.Subfe = four _ refl
 
-one-rows : (op : ArithOneOp) → Four (arithOneRow op) (λ (b c : Bool). Instr.Arithmetic (Arithmetic.One op 0 0 b c))
+one-rows : (p : Profile) (op : ArithOneOp) → Four p (arithOneRow op) (λ (b c : Bool). Instr.Arithmetic (Arithmetic.One op 0 0 b c))
 unfolding samples samplesA samplesN samplesS
-one-rows ArithOneOp.Addme = four _ refl
-one-rows ArithOneOp.Addze = four _ refl
-one-rows ArithOneOp.Subfme = four _ refl
-one-rows ArithOneOp.Subfze = four _ refl
-one-rows ArithOneOp.Neg = four _ refl
+one-rows p ArithOneOp.Addme = four _ refl
+one-rows p ArithOneOp.Addze = four _ refl
+one-rows p ArithOneOp.Subfme = four _ refl
+one-rows p ArithOneOp.Subfze = four _ refl
+one-rows p ArithOneOp.Neg = four _ refl
 
-product-rows : (op : Sign) → Two (multiplyRow op) (λ (b : Bool). Instr.Arithmetic (Arithmetic.Multiply op 0 0 0 b))
+product-rows : (p : Profile) (op : Sign) → Two p (multiplyRow op) (λ (b : Bool). Instr.Arithmetic (Arithmetic.Multiply op 0 0 0 b))
 unfolding samples samplesM
-product-rows Sign.Signed = two _ refl
-product-rows Sign.Unsigned = two _ refl
+product-rows p Sign.Signed = two _ refl
+product-rows p Sign.Unsigned = two _ refl
 
-logic-imm-in : (op : LogicImmOp) → In (logicImmRow op) (Instr.Logical (Logical.Immediate op 0 0 0))
+logic-imm-in : (p : Profile) (op : LogicImmOp) → In p (logicImmRow op) (Instr.Logical (Logical.Immediate op 0 0 0))
 unfolding samples samplesA samplesO samplesX
-logic-imm-in LogicImmOp.AndiDot = (λ d. refl, lit< tt)
-logic-imm-in LogicImmOp.AndisDot = (λ d. refl, lit< tt)
-logic-imm-in LogicImmOp.Ori = (λ d. refl, lit< tt)
-logic-imm-in LogicImmOp.Oris = (λ d. refl, lit< tt)
-logic-imm-in LogicImmOp.Xori = (λ d. refl, lit< tt)
-logic-imm-in LogicImmOp.Xoris = (λ d. refl, lit< tt)
+logic-imm-in p LogicImmOp.AndiDot = (λ d. refl, lit< tt)
+logic-imm-in p LogicImmOp.AndisDot = (λ d. refl, lit< tt)
+logic-imm-in p LogicImmOp.Ori = (λ d. refl, lit< tt)
+logic-imm-in p LogicImmOp.Oris = (λ d. refl, lit< tt)
+logic-imm-in p LogicImmOp.Xori = (λ d. refl, lit< tt)
+logic-imm-in p LogicImmOp.Xoris = (λ d. refl, lit< tt)
 
-logic-rows : (op : LogicOp) → Two (logicRow op) (λ (b : Bool). Instr.Logical (Logical.Register op 0 0 0 b))
+logic-rows : (p : Profile) (op : LogicOp) → Two p (logicRow op) (λ (b : Bool). Instr.Logical (Logical.Register op 0 0 0 b))
 unfolding samples samplesA samplesE samplesN samplesO samplesX
-logic-rows LogicOp.And = two _ refl
-logic-rows LogicOp.Andc = two _ refl
-logic-rows LogicOp.Eqv = two _ refl
-logic-rows LogicOp.Nand = two _ refl
-logic-rows LogicOp.Nor = two _ refl
-logic-rows LogicOp.Or = two _ refl
-logic-rows LogicOp.Orc = two _ refl
-logic-rows LogicOp.Xor = two _ refl
+logic-rows p LogicOp.And = two _ refl
+logic-rows p LogicOp.Andc = two _ refl
+logic-rows p LogicOp.Eqv = two _ refl
+logic-rows p LogicOp.Nand = two _ refl
+logic-rows p LogicOp.Nor = two _ refl
+logic-rows p LogicOp.Or = two _ refl
+logic-rows p LogicOp.Orc = two _ refl
+logic-rows p LogicOp.Xor = two _ refl
 
-logic-one-rows : (op : LogicOneOp) → Two (logicOneRow op) (λ (b : Bool). Instr.Logical (Logical.One op 0 0 b))
+logic-one-rows : (p : Profile) (op : LogicOneOp) → Two p (logicOneRow op) (λ (b : Bool). Instr.Logical (Logical.One op 0 0 b))
 unfolding samples samplesC samplesE
-logic-one-rows LogicOneOp.Extsb = two _ refl
-logic-one-rows LogicOneOp.Extsh = two _ refl
-logic-one-rows LogicOneOp.Cntlzw = two _ refl
+logic-one-rows p LogicOneOp.Extsb = two _ refl
+logic-one-rows p LogicOneOp.Extsh = two _ refl
+logic-one-rows p LogicOneOp.Cntlzw = two _ refl
 
-compare-imm-in : (op : Sign) → In (compareImmRow op) (Instr.Compare (Compare.Immediate op 0 0))
+compare-imm-in : (p : Profile) (op : Sign) → In p (compareImmRow op) (Instr.Compare (Compare.Immediate op 0 0))
 unfolding samples samplesC
-compare-imm-in Sign.Signed = (λ d. refl, lit< tt)
-compare-imm-in Sign.Unsigned = (λ d. refl, lit< tt)
+compare-imm-in p Sign.Signed = (λ d. refl, lit< tt)
+compare-imm-in p Sign.Unsigned = (λ d. refl, lit< tt)
 
-compare-in : (op : Sign) → In (compareRow op) (Instr.Compare (Compare.Register op 0 0))
+compare-in : (p : Profile) (op : Sign) → In p (compareRow op) (Instr.Compare (Compare.Register op 0 0))
 unfolding samples samplesC
-compare-in Sign.Signed = (λ d. refl, lit< tt)
-compare-in Sign.Unsigned = (λ d. refl, lit< tt)
+compare-in p Sign.Signed = (λ d. refl, lit< tt)
+compare-in p Sign.Unsigned = (λ d. refl, lit< tt)
 
-rotate-rows : (op : RotateOp) → Two (rotateRow op) (λ (b : Bool). Instr.Rotate (Rotate.Immediate op 0 0 0 0 0 b))
+rotate-rows : (p : Profile) (op : RotateOp) → Two p (rotateRow op) (λ (b : Bool). Instr.Rotate (Rotate.Immediate op 0 0 0 0 0 b))
 unfolding samples samplesR
-rotate-rows RotateOp.Rlwimi = two _ refl
-rotate-rows RotateOp.Rlwinm = two _ refl
+rotate-rows p RotateOp.Rlwimi = two _ refl
+rotate-rows p RotateOp.Rlwinm = two _ refl
 
-shift-rows : (op : ShiftOp) → Two (shiftRow op) (λ (b : Bool). Instr.Rotate (Rotate.Shift op 0 0 0 b))
+double-rows : (op : RotateDoubleOp) → Two Profile.Ppe42x (rotateDoubleRow op) (λ (b : Bool). Instr.Rotate (Rotate.Double op 0 0 0 0 b))
+unfolding samples samplesR
+double-rows RotateDoubleOp.Rldicl = two _ refl
+double-rows RotateDoubleOp.Rldicr = two _ refl
+double-rows RotateDoubleOp.Rldimi = two _ refl
+
+shift-rows : (p : Profile) (op : ShiftOp) → Two p (shiftRow op) (λ (b : Bool). Instr.Rotate (Rotate.Shift op 0 0 0 b))
 unfolding samples samplesS
-shift-rows ShiftOp.Slw = two _ refl
-shift-rows ShiftOp.Srw = two _ refl
-shift-rows ShiftOp.Sraw = two _ refl
+shift-rows p ShiftOp.Slw = two _ refl
+shift-rows p ShiftOp.Srw = two _ refl
+shift-rows p ShiftOp.Sraw = two _ refl
 
-load-rows : (op : Width) → Two (loadRow op) (λ (b : Bool). Instr.LoadStore (LoadStore.Load op b 0 2 0))
+load-rows : (p : Profile) (op : Width) → Two p (loadRow op) (λ (b : Bool). Instr.LoadStore (LoadStore.Load op b 0 2 0))
 unfolding samples samplesL
-load-rows Width.Byte = two _ refl
-load-rows Width.Half = two _ refl
-load-rows Width.Word = two _ refl
+load-rows p Width.Byte = two _ refl
+load-rows p Width.Half = two _ refl
+load-rows p Width.Word = two _ refl
 
-load-indexed-in : (op : Width) → In (loadIndexedRow op) (Instr.LoadStore (LoadStore.LoadIndexed op 0 0 0))
+load-indexed-in : (p : Profile) (op : Width) → In p (loadIndexedRow op) (Instr.LoadStore (LoadStore.LoadIndexed op 0 0 0))
 unfolding samples samplesL
-load-indexed-in Width.Byte = (λ d. refl, lit< tt)
-load-indexed-in Width.Half = (λ d. refl, lit< tt)
-load-indexed-in Width.Word = (λ d. refl, lit< tt)
+load-indexed-in p Width.Byte = (λ d. refl, lit< tt)
+load-indexed-in p Width.Half = (λ d. refl, lit< tt)
+load-indexed-in p Width.Word = (λ d. refl, lit< tt)
 
-store-rows : (op : Width) → Two (storeRow op) (λ (b : Bool). Instr.LoadStore (LoadStore.Store op b 0 2 0))
+store-rows : (p : Profile) (op : Width) → Two p (storeRow op) (λ (b : Bool). Instr.LoadStore (LoadStore.Store op b 0 2 0))
 unfolding samples samplesS
-store-rows Width.Byte = two _ refl
-store-rows Width.Half = two _ refl
-store-rows Width.Word = two _ refl
+store-rows p Width.Byte = two _ refl
+store-rows p Width.Half = two _ refl
+store-rows p Width.Word = two _ refl
 
-store-indexed-in : (op : Width) → In (storeIndexedRow op) (Instr.LoadStore (LoadStore.StoreIndexed op 0 0 0))
+store-indexed-in : (p : Profile) (op : Width) → In p (storeIndexedRow op) (Instr.LoadStore (LoadStore.StoreIndexed op 0 0 0))
 unfolding samples samplesS
-store-indexed-in Width.Byte = (λ d. refl, lit< tt)
-store-indexed-in Width.Half = (λ d. refl, lit< tt)
-store-indexed-in Width.Word = (λ d. refl, lit< tt)
+store-indexed-in p Width.Byte = (λ d. refl, lit< tt)
+store-indexed-in p Width.Half = (λ d. refl, lit< tt)
+store-indexed-in p Width.Word = (λ d. refl, lit< tt)
 
-branch-rows : (op : BranchOp) → Two (branchRow op) (λ (b : Bool). Instr.Branch (Branch.Register op 20 0 0 b))
+branch-rows : (p : Profile) (op : BranchOp) → Two p (branchRow op) (λ (b : Bool). Instr.Branch (Branch.Register op 20 0 0 b))
 unfolding samples samplesB
-branch-rows BranchOp.Bclr = two _ refl
-branch-rows BranchOp.Bcctr = two _ refl
+branch-rows p BranchOp.Bclr = two _ refl
+branch-rows p BranchOp.Bcctr = two _ refl
 
-spr-in : (op : SprOp) → In (sprRow op) (Instr.System (System.Spr op 0 1))
+spr-in : (p : Profile) (op : SprOp) → In p (sprRow op) (Instr.System (System.Spr op 0 1))
 unfolding samples samplesM
-spr-in SprOp.Mfspr = (λ d. refl, lit< tt)
-spr-in SprOp.Mtspr = (λ d. refl, lit< tt)
+spr-in p SprOp.Mfspr = (λ d. refl, omega arith)
+spr-in p SprOp.Mtspr = (λ d. refl, omega arith)
 
-move-in : (op : MoveOp) → In (moveRow op) (Instr.System (System.Move op 0))
+move-in : (p : Profile) (op : MoveOp) → In p (moveRow op) (Instr.System (System.Move op 0))
 unfolding samples samplesM samplesW
-move-in MoveOp.Mfcr = (λ d. refl, lit< tt)
-move-in MoveOp.Mtcr0 = (λ d. refl, lit< tt)
-move-in MoveOp.Mfmsr = (λ d. refl, lit< tt)
-move-in MoveOp.Mtmsr = (λ d. refl, lit< tt)
-move-in MoveOp.Wrtee = (λ d. refl, lit< tt)
+move-in p MoveOp.Mfcr = (λ d. refl, omega arith)
+move-in p MoveOp.Mtcr0 = (λ d. refl, omega arith)
+move-in p MoveOp.Mfmsr = (λ d. refl, omega arith)
+move-in p MoveOp.Mtmsr = (λ d. refl, omega arith)
+move-in p MoveOp.Wrtee = (λ d. refl, lit< tt)
 
-cache-in : (op : CacheOp) → In (cacheRow op) (Instr.Cache op 0 0 0)
+cache-in : (p : Profile) (op : CacheOp) → In p (cacheRow op) (Instr.Cache op 0 0 0)
 unfolding samples samplesD
-cache-in CacheOp.Dcbf = (λ d. refl, lit< tt)
-cache-in CacheOp.Dcbi = (λ d. refl, lit< tt)
-cache-in CacheOp.Dcbt = (λ d. refl, lit< tt)
-cache-in CacheOp.Dcbz = (λ d. refl, lit< tt)
+cache-in p CacheOp.Dcbf = (λ d. refl, lit< tt)
+cache-in p CacheOp.Dcbi = (λ d. refl, lit< tt)
+cache-in p CacheOp.Dcbt = (λ d. refl, lit< tt)
+cache-in p CacheOp.Dcbz = (λ d. refl, lit< tt)
 
-always-in : (aa lk : Bool) → In (at 98 (2 * digit aa + digit lk)) (Instr.Branch (Branch.Always aa lk 0))
+always-in : (p : Profile) (aa lk : Bool) → In p (at 98 (2 * digit aa + digit lk)) (Instr.Branch (Branch.Always aa lk 0))
 unfolding samples samplesB
-always-in false false = (λ d. refl, lit< tt)
-always-in false true = (λ d. refl, lit< tt)
-always-in true false = (λ d. refl, lit< tt)
-always-in true true = (λ d. refl, lit< tt)
+always-in p false false = (λ d. refl, lit< tt)
+always-in p false true = (λ d. refl, lit< tt)
+always-in p true false = (λ d. refl, lit< tt)
+always-in p true true = (λ d. refl, lit< tt)
 
-row-has : (i : Instr) → In (rowOf i) (sampleOf i)
-unfolding samples samplesB samplesL samplesR samplesS samplesT samplesW
-row-has (Instr.Arithmetic (Arithmetic.Immediate op rt ra si)) = imm-in op
-row-has (Instr.Arithmetic (Arithmetic.Register op rt ra rb oe rc)) = four-in (sum-rows op) oe rc
-row-has (Instr.Arithmetic (Arithmetic.One op rt ra oe rc)) = four-in (one-rows op) oe rc
-row-has (Instr.Arithmetic (Arithmetic.Multiply sign rt ra rb rc)) = two-in (product-rows sign) rc
-row-has (Instr.Logical (Logical.Immediate op rs ra ui)) = logic-imm-in op
-row-has (Instr.Logical (Logical.Register op rs ra rb rc)) = two-in (logic-rows op) rc
-row-has (Instr.Logical (Logical.One op rs ra rc)) = two-in (logic-one-rows op) rc
-row-has (Instr.Compare (Compare.Immediate sign ra imm)) = compare-imm-in sign
-row-has (Instr.Compare (Compare.Register sign ra rb)) = compare-in sign
-row-has (Instr.Rotate (Rotate.Immediate op rs ra sh mb me rc)) = two-in (rotate-rows op) rc
-row-has (Instr.Rotate (Rotate.Register rs ra rb mb me rc)) = two-in {r = at 114 4} {f = (λ (b : Bool). Instr.Rotate (Rotate.Register 0 0 0 0 0 b))} (two _ refl) rc
-row-has (Instr.Rotate (Rotate.Shift op rs ra rb rc)) = two-in (shift-rows op) rc
-row-has (Instr.Rotate (Rotate.Srawi rs ra sh rc)) = two-in {r = at 115 27} {f = (λ (b : Bool). Instr.Rotate (Rotate.Srawi 0 0 0 b))} (two _ refl) rc
-row-has (Instr.LoadStore (LoadStore.Load width update rt ra d)) = two-in (load-rows width) update
-row-has (Instr.LoadStore (LoadStore.LoadIndexed width rt ra rb)) = load-indexed-in width
-row-has (Instr.LoadStore (LoadStore.Store width update rs ra d)) = two-in (store-rows width) update
-row-has (Instr.LoadStore (LoadStore.StoreIndexed width rs ra rb)) = store-indexed-in width
-row-has (Instr.LoadStore (LoadStore.LoadDouble update dt ra d)) = two-in {r = at 108 9} {f = (λ (b : Bool). Instr.LoadStore (LoadStore.LoadDouble b 0 2 0))} (two _ refl) update
-row-has (Instr.LoadStore (LoadStore.StoreDouble update ds ra d)) = two-in {r = at 115 38} {f = (λ (b : Bool). Instr.LoadStore (LoadStore.StoreDouble b 0 2 0))} (two _ refl) update
-row-has (Instr.Branch (Branch.Always aa lk li)) = always-in aa lk
-row-has (Instr.Branch (Branch.Conditional bo bi bd aa lk)) = four-in {r = at 98 4} {f = (λ (b c : Bool). Instr.Branch (Branch.Conditional 0 0 0 b c))} (four _ refl) aa lk
-row-has (Instr.Branch (Branch.Register op bo bi bh lk)) = two-in (branch-rows op) lk
-row-has (Instr.Trap to ra rb tg) = (λ d. refl, lit< tt)
-row-has (Instr.System (System.Spr op rt spr)) = spr-in op
-row-has (Instr.System (System.Move op rt)) = move-in op
-row-has (Instr.System (System.Wrteei e)) = (λ d. refl, lit< tt)
-row-has (Instr.System System.Rfi) = (λ d. refl, lit< tt)
-row-has (Instr.System System.Sync) = (λ d. refl, lit< tt)
-row-has (Instr.Cache op hint ra rb) = cache-in op
+row-has : (p : Profile) (i : Instr) → spelledOn p i ≡ true → In p (rowOf i) (sampleOf i)
+unfolding samples samplesB samplesL samplesM samplesR samplesS samplesT samplesW
+row-has p (Instr.Arithmetic (Arithmetic.Immediate op rt ra si)) h = imm-in p op
+row-has p (Instr.Arithmetic (Arithmetic.Register op rt ra rb oe rc)) h = four-in (sum-rows p op) oe rc
+row-has p (Instr.Arithmetic (Arithmetic.One op rt ra oe rc)) h = four-in (one-rows p op) oe rc
+row-has p (Instr.Arithmetic (Arithmetic.Multiply sign rt ra rb rc)) h = two-in (product-rows p sign) rc
+row-has Profile.Ppe42 (Instr.Arithmetic (Arithmetic.MultiplyImm rt ra si)) h = clash h
+row-has Profile.Ppe42x (Instr.Arithmetic (Arithmetic.MultiplyImm rt ra si)) h = (λ d. refl, lit< tt)
+row-has Profile.Ppe42 (Instr.Arithmetic (Arithmetic.MultiplyLow rt ra rb oe rc)) h = clash h
+row-has Profile.Ppe42x (Instr.Arithmetic (Arithmetic.MultiplyLow rt ra rb oe rc)) h = four-in {p = Profile.Ppe42x} {r = at 109 11} {f = (λ (b c : Bool). Instr.Arithmetic (Arithmetic.MultiplyLow 0 0 0 b c))} (four _ refl) oe rc
+row-has p (Instr.Logical (Logical.Immediate op rs ra ui)) h = logic-imm-in p op
+row-has p (Instr.Logical (Logical.Register op rs ra rb rc)) h = two-in (logic-rows p op) rc
+row-has p (Instr.Logical (Logical.One op rs ra rc)) h = two-in (logic-one-rows p op) rc
+row-has p (Instr.Compare (Compare.Immediate sign ra imm)) h = compare-imm-in p sign
+row-has p (Instr.Compare (Compare.Register sign ra rb)) h = compare-in p sign
+row-has p (Instr.Rotate (Rotate.Immediate op rs ra sh mb me rc)) h = two-in (rotate-rows p op) rc
+row-has p (Instr.Rotate (Rotate.Register rs ra rb mb me rc)) h = two-in {p = p} {r = at 114 4} {f = (λ (b : Bool). Instr.Rotate (Rotate.Register 0 0 0 0 0 b))} (two _ refl) rc
+row-has p (Instr.Rotate (Rotate.Shift op rs ra rb rc)) h = two-in (shift-rows p op) rc
+row-has p (Instr.Rotate (Rotate.Srawi rs ra sh rc)) h = two-in {p = p} {r = at 115 27} {f = (λ (b : Bool). Instr.Rotate (Rotate.Srawi 0 0 0 b))} (two _ refl) rc
+row-has Profile.Ppe42 (Instr.Rotate (Rotate.Double op ds da sh mb rc)) h = clash h
+row-has Profile.Ppe42x (Instr.Rotate (Rotate.Double op ds da sh mb rc)) h = two-in (double-rows op) rc
+row-has p (Instr.LoadStore (LoadStore.Load width update rt ra d)) h = two-in (load-rows p width) update
+row-has p (Instr.LoadStore (LoadStore.LoadIndexed width rt ra rb)) h = load-indexed-in p width
+row-has p (Instr.LoadStore (LoadStore.Store width update rs ra d)) h = two-in (store-rows p width) update
+row-has p (Instr.LoadStore (LoadStore.StoreIndexed width rs ra rb)) h = store-indexed-in p width
+row-has p (Instr.LoadStore (LoadStore.LoadDouble update dt ra d)) h = two-in {p = p} {r = at 108 9} {f = (λ (b : Bool). Instr.LoadStore (LoadStore.LoadDouble b 0 2 0))} (two _ refl) update
+row-has p (Instr.LoadStore (LoadStore.StoreDouble update ds ra d)) h = two-in {p = p} {r = at 115 38} {f = (λ (b : Bool). Instr.LoadStore (LoadStore.StoreDouble b 0 2 0))} (two _ refl) update
+row-has p (Instr.Branch (Branch.Always aa lk li)) h = always-in p aa lk
+row-has p (Instr.Branch (Branch.Conditional bo bi bd aa lk)) h = four-in {p = p} {r = at 98 4} {f = (λ (b c : Bool). Instr.Branch (Branch.Conditional 0 0 0 b c))} (four _ refl) aa lk
+row-has p (Instr.Branch (Branch.Register op bo bi bh lk)) h = two-in (branch-rows p op) lk
+row-has p (Instr.Trap to ra rb tg) h = (λ d. refl, lit< tt)
+row-has p (Instr.System (System.Spr op rt spr)) h = spr-in p op
+row-has p (Instr.System (System.Move op rt)) h = move-in p op
+row-has p (Instr.System (System.Wrteei e)) h = (λ d. refl, lit< tt)
+row-has p (Instr.System System.Rfi) h = (λ d. refl, omega arith)
+row-has p (Instr.System System.Sync) h = (λ d. refl, lit< tt)
+row-has p (Instr.Cache op hint ra rb) h = cache-in p op
 
-pub sample-at : (i d : Instr) → getD (samples (rowOf i .letter)) (rowOf i .row) d ≡ sampleOf i
-sample-at i d = row-has i .0 d
+pub sample-at : (p : Profile) (i d : Instr) → spelledOn p i ≡ true → getD (samples p (rowOf i .letter)) (rowOf i .row) d ≡ sampleOf i
+sample-at p i d e = row-has p i e .0 d
 
-pub row-in : (i : Instr) → rowOf i .row < length (samples (rowOf i .letter))
-row-in i = row-has i .1
+pub row-in : (p : Profile) (i : Instr) → spelledOn p i ≡ true → rowOf i .row < length (samples p (rowOf i .letter))
+row-in p i e = row-has p i e .1

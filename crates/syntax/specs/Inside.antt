@@ -28,8 +28,8 @@ use Rattle.syntax.specs.declared.table.Done.{Done}
 -- the range of a number by its letter in a row
 unfoldable pub rangeOf : ℕ → Range
 rangeOf c =
-    pick (eqb c 83) (signed 0x8000) (pick (eqb c 85) (unsigned 0x1_0000) (pick (eqb c 78) (unsigned 32) (pick (eqb c 67) (unsigned 4)
-    (pick (eqb c 80) (unsigned 1024) (pick (eqb c 69) (unsigned 2) (pick (eqb c 74) (target 0x80_0000) (target 0x2000)))))))
+    pick (eqb c 83) (signed 0x8000) (pick (eqb c 85) (unsigned 0x1_0000) (pick (eqb c 78) (unsigned 32) (pick (eqb c 76) (unsigned 64) (pick (eqb c 67) (unsigned 4)
+    (pick (eqb c 80) (unsigned 1024) (pick (eqb c 69) (unsigned 2) (pick (eqb c 74) (target 0x80_0000) (target 0x2000))))))))
 
 abbrev pub isOperand : ℕ → Bool
 isOperand c = leb 65 c && leb c 90
@@ -201,8 +201,9 @@ unfoldable pub matchesFrom : ℕ → List ℕ → List Instr → Bool
 matchesFrom n t [] = true
 matchesFrom n t (i ∷ is) = rowMatches t n i && matchesFrom (suc n) t is
 
+-- the first of the rows
 unfoldable pub matches : List ℕ → List Instr → Bool
-matches t is = eqb (length t) (length is * 28) && matchesFrom 0 t is
+matches t is = leb (length is * 28) (length t) && matchesFrom 0 t is
 
 -- rows that stand for these instructions, and what was done with them
 pub record WithRows (is : List Instr) (job : Job) (s before after : List ℕ) (r : Done) : Type 0 where

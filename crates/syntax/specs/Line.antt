@@ -3,9 +3,10 @@ use Prim.Native.Nat.{ℕ}
 use mathlib.Core.Path.{_≡_}
 use mathlib.Core.Bool.{true, false}
 use mathlib.Core.List.{List, [], _∷_, _++_}
+use Rattle.insn.specs.declared.profile.Profile.{Profile}
 use Rattle.insn.specs.declared.instr.Instr.{Instr}
 use Rattle.expr.specs.Grammar.{Expr, InE, textE, allDigits}
-use Rattle.syntax.specs.Syntax.{Range, Item, lit, reg, zreg, num, shapeOf}
+use Rattle.syntax.specs.Syntax.{Range, Item, lit, reg, zreg, num, spelledOn, shapeOf}
 
 -- a byte; r and digits; a lone 0; an expression
 pub data Part : Type 0 where
@@ -43,14 +44,16 @@ pub record Begins (xs : List Item) (v : List ℕ) : Type 0 where
   pub rest : List ℕ
   pub text : texts parts ≡ v ++ rest
 
--- the grammar has the line: it is one of an instruction's shape
-pub record Has (s : List ℕ) : Type 0 where
+-- a core's grammar has the line: it is one of the shape of an instruction whose mnemonic is the core's
+pub record Has (p : Profile) (s : List ℕ) : Type 0 where
   pub of : Instr
+  pub spelled : spelledOn p of ≡ true
   pub parts : List Part
   pub line : Line (shapeOf of) parts
   pub text : texts parts ≡ s
 
--- some line of the grammar begins so
-pub record Opens (v : List ℕ) : Type 0 where
+-- some line of a core's grammar begins so
+pub record Opens (p : Profile) (v : List ℕ) : Type 0 where
   pub of : Instr
+  pub spelled : spelledOn p of ≡ true
   pub begins : Begins (shapeOf of) v

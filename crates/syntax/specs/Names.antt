@@ -9,6 +9,7 @@ use Rattle.insn.specs.declared.instr.LogicImmOp.{LogicImmOp}
 use Rattle.insn.specs.declared.instr.LogicOp.{LogicOp}
 use Rattle.insn.specs.declared.instr.LogicOneOp.{LogicOneOp}
 use Rattle.insn.specs.declared.instr.RotateOp.{RotateOp}
+use Rattle.insn.specs.declared.instr.RotateDoubleOp.{RotateDoubleOp}
 use Rattle.insn.specs.declared.instr.ShiftOp.{ShiftOp}
 use Rattle.insn.specs.declared.instr.BranchOp.{BranchOp}
 use Rattle.insn.specs.declared.instr.SprOp.{SprOp}
@@ -77,6 +78,11 @@ compareName Sign.Unsigned = "cmplw"  -- 9.4.22
 abbrev pub rotateName : RotateOp → String
 rotateName RotateOp.Rlwimi = "rlwimi"  -- 9.4.73
 rotateName RotateOp.Rlwinm = "rlwinm"  -- 9.4.74
+
+abbrev pub rotateDoubleName : RotateDoubleOp → String
+rotateDoubleName RotateDoubleOp.Rldicl = "rldicl"  -- 9.4.70
+rotateDoubleName RotateDoubleOp.Rldicr = "rldicr"  -- 9.4.71
+rotateDoubleName RotateDoubleOp.Rldimi = "rldimi"  -- 9.4.72
 
 abbrev pub shiftName : ShiftOp → String
 shiftName ShiftOp.Slw = "slw"  -- 9.4.77

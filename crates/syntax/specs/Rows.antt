@@ -7,6 +7,7 @@ use mathlib.Core.List.{List, [], _∷_}
 use lib.Dec.{eqb}
 use Rattle.word.specs.Bits.{digit}
 use Rattle.word.specs.declared.width.Width.{Width}
+use Rattle.insn.specs.declared.profile.Profile.{Profile}
 use Rattle.insn.specs.declared.instr.Instr.{Instr}
 use Rattle.insn.specs.declared.instr.Arithmetic.{Arithmetic}
 use Rattle.insn.specs.declared.instr.Logical.{Logical}
@@ -22,6 +23,7 @@ use Rattle.insn.specs.declared.instr.LogicImmOp.{LogicImmOp}
 use Rattle.insn.specs.declared.instr.LogicOp.{LogicOp}
 use Rattle.insn.specs.declared.instr.LogicOneOp.{LogicOneOp}
 use Rattle.insn.specs.declared.instr.RotateOp.{RotateOp}
+use Rattle.insn.specs.declared.instr.RotateDoubleOp.{RotateDoubleOp}
 use Rattle.insn.specs.declared.instr.ShiftOp.{ShiftOp}
 use Rattle.insn.specs.declared.instr.BranchOp.{BranchOp}
 use Rattle.insn.specs.declared.instr.SprOp.{SprOp}
@@ -37,6 +39,8 @@ sampleOf (Instr.Arithmetic (Arithmetic.Immediate op rt ra si)) = Instr.Arithmeti
 sampleOf (Instr.Arithmetic (Arithmetic.Register op rt ra rb oe rc)) = Instr.Arithmetic (Arithmetic.Register op 0 0 0 oe rc)
 sampleOf (Instr.Arithmetic (Arithmetic.One op rt ra oe rc)) = Instr.Arithmetic (Arithmetic.One op 0 0 oe rc)
 sampleOf (Instr.Arithmetic (Arithmetic.Multiply sign rt ra rb rc)) = Instr.Arithmetic (Arithmetic.Multiply sign 0 0 0 rc)
+sampleOf (Instr.Arithmetic (Arithmetic.MultiplyImm rt ra si)) = Instr.Arithmetic (Arithmetic.MultiplyImm 0 0 0)
+sampleOf (Instr.Arithmetic (Arithmetic.MultiplyLow rt ra rb oe rc)) = Instr.Arithmetic (Arithmetic.MultiplyLow 0 0 0 oe rc)
 sampleOf (Instr.Logical (Logical.Immediate op rs ra ui)) = Instr.Logical (Logical.Immediate op 0 0 0)
 sampleOf (Instr.Logical (Logical.Register op rs ra rb rc)) = Instr.Logical (Logical.Register op 0 0 0 rc)
 sampleOf (Instr.Logical (Logical.One op rs ra rc)) = Instr.Logical (Logical.One op 0 0 rc)
@@ -46,6 +50,7 @@ sampleOf (Instr.Rotate (Rotate.Immediate op rs ra sh mb me rc)) = Instr.Rotate (
 sampleOf (Instr.Rotate (Rotate.Register rs ra rb mb me rc)) = Instr.Rotate (Rotate.Register 0 0 0 0 0 rc)
 sampleOf (Instr.Rotate (Rotate.Shift op rs ra rb rc)) = Instr.Rotate (Rotate.Shift op 0 0 0 rc)
 sampleOf (Instr.Rotate (Rotate.Srawi rs ra sh rc)) = Instr.Rotate (Rotate.Srawi 0 0 0 rc)
+sampleOf (Instr.Rotate (Rotate.Double op ds da sh mb rc)) = Instr.Rotate (Rotate.Double op 0 0 0 0 rc)
 sampleOf (Instr.LoadStore (LoadStore.Load width update rt ra d)) = Instr.LoadStore (LoadStore.Load width update 0 2 0)
 sampleOf (Instr.LoadStore (LoadStore.LoadIndexed width rt ra rb)) = Instr.LoadStore (LoadStore.LoadIndexed width 0 0 0)
 sampleOf (Instr.LoadStore (LoadStore.Store width update rs ra d)) = Instr.LoadStore (LoadStore.Store width update 0 2 0)
@@ -94,6 +99,9 @@ logicOnes op = two (λ (rc : Bool). Instr.Logical (Logical.One op 0 0 rc))
 abbrev rotates : RotateOp → List Instr → List Instr
 rotates op = two (λ (rc : Bool). Instr.Rotate (Rotate.Immediate op 0 0 0 0 0 rc))
 
+abbrev doubles : RotateDoubleOp → List Instr → List Instr
+doubles op = two (λ (rc : Bool). Instr.Rotate (Rotate.Double op 0 0 0 0 rc))
+
 abbrev shifts : ShiftOp → List Instr → List Instr
 shifts op = two (λ (rc : Bool). Instr.Rotate (Rotate.Shift op 0 0 0 rc))
 
@@ -127,6 +135,11 @@ compareImms sign rest = Instr.Compare (Compare.Immediate sign 0 0) ∷ rest
 abbrev compares : Sign → List Instr → List Instr
 compares sign rest = Instr.Compare (Compare.Register sign 0 0) ∷ rest
 
+-- those of the 42X alone, after the others of their letter
+abbrev added : Profile → List Instr → List Instr
+added Profile.Ppe42 is = []
+added Profile.Ppe42x is = is
+
 unfoldable pub samplesA : List Instr
 samplesA = imms ArithImmOp.Addi (imms ArithImmOp.Addis (imms ArithImmOp.Addic (imms ArithImmOp.AddicDot (sums ArithOp.Add (sums ArithOp.Addc (sums ArithOp.Adde (ones ArithOneOp.Addme (ones ArithOneOp.Addze (logicImms LogicImmOp.AndiDot (logicImms LogicImmOp.AndisDot (logics LogicOp.And (logics LogicOp.Andc []))))))))))))
 
@@ -145,8 +158,8 @@ samplesE = logics LogicOp.Eqv (logicOnes LogicOneOp.Extsb (logicOnes LogicOneOp.
 unfoldable pub samplesL : List Instr
 samplesL = loads Width.Byte (loads Width.Half (loads Width.Word (indexedLoads Width.Byte (indexedLoads Width.Half (indexedLoads Width.Word (two (λ (update : Bool). Instr.LoadStore (LoadStore.LoadDouble update 0 2 0)) []))))))
 
-unfoldable pub samplesM : List Instr
-samplesM = products Sign.Signed (products Sign.Unsigned (sprs SprOp.Mfspr (sprs SprOp.Mtspr (moves MoveOp.Mfcr (moves MoveOp.Mtcr0 (moves MoveOp.Mfmsr (moves MoveOp.Mtmsr [])))))))
+unfoldable pub samplesM : Profile → List Instr
+samplesM p = products Sign.Signed (products Sign.Unsigned (sprs SprOp.Mfspr (sprs SprOp.Mtspr (moves MoveOp.Mfcr (moves MoveOp.Mtcr0 (moves MoveOp.Mfmsr (moves MoveOp.Mtmsr (added p (Instr.Arithmetic (Arithmetic.MultiplyImm 0 0 0) ∷ four (λ (oe rc : Bool). Instr.Arithmetic (Arithmetic.MultiplyLow 0 0 0 oe rc)) [])))))))))
 
 unfoldable pub samplesN : List Instr
 samplesN = ones ArithOneOp.Neg (logics LogicOp.Nand (logics LogicOp.Nor []))
@@ -154,8 +167,8 @@ samplesN = ones ArithOneOp.Neg (logics LogicOp.Nand (logics LogicOp.Nor []))
 unfoldable pub samplesO : List Instr
 samplesO = logicImms LogicImmOp.Ori (logicImms LogicImmOp.Oris (logics LogicOp.Or (logics LogicOp.Orc [])))
 
-unfoldable pub samplesR : List Instr
-samplesR = rotates RotateOp.Rlwimi (rotates RotateOp.Rlwinm (two (λ (rc : Bool). Instr.Rotate (Rotate.Register 0 0 0 0 0 rc)) (Instr.System System.Rfi ∷ [])))
+unfoldable pub samplesR : Profile → List Instr
+samplesR p = rotates RotateOp.Rlwimi (rotates RotateOp.Rlwinm (two (λ (rc : Bool). Instr.Rotate (Rotate.Register 0 0 0 0 0 rc)) (Instr.System System.Rfi ∷ added p (doubles RotateDoubleOp.Rldicl (doubles RotateDoubleOp.Rldicr (doubles RotateDoubleOp.Rldimi []))))))
 
 unfoldable pub samplesS : List Instr
 samplesS = imms ArithImmOp.Subfic (sums ArithOp.Subf (sums ArithOp.Subfc (sums ArithOp.Subfe (ones ArithOneOp.Subfme (ones ArithOneOp.Subfze (shifts ShiftOp.Slw (shifts ShiftOp.Srw (shifts ShiftOp.Sraw (two (λ (rc : Bool). Instr.Rotate (Rotate.Srawi 0 0 0 rc)) (stores Width.Byte (stores Width.Half (stores Width.Word (indexedStores Width.Byte (indexedStores Width.Half (indexedStores Width.Word (two (λ (update : Bool). Instr.LoadStore (LoadStore.StoreDouble update 0 2 0)) (Instr.System System.Sync ∷ [])))))))))))))))))
@@ -169,11 +182,11 @@ samplesW = moves MoveOp.Wrtee (Instr.System (System.Wrteei false) ∷ [])
 unfoldable pub samplesX : List Instr
 samplesX = logicImms LogicImmOp.Xori (logicImms LogicImmOp.Xoris (logics LogicOp.Xor []))
 
--- the samples whose mnemonics begin with a letter
-unfoldable pub samples : ℕ → List Instr
-samples c =
+-- a core's samples whose mnemonics begin with a letter
+unfoldable pub samples : Profile → ℕ → List Instr
+samples p c =
     pick (eqb c 97) samplesA (pick (eqb c 98) samplesB (pick (eqb c 99) samplesC (pick (eqb c 100) samplesD (pick (eqb c 101) samplesE
-    (pick (eqb c 108) samplesL (pick (eqb c 109) samplesM (pick (eqb c 110) samplesN (pick (eqb c 111) samplesO (pick (eqb c 114) samplesR
+    (pick (eqb c 108) samplesL (pick (eqb c 109) (samplesM p) (pick (eqb c 110) samplesN (pick (eqb c 111) samplesO (pick (eqb c 114) (samplesR p)
     (pick (eqb c 115) samplesS (pick (eqb c 116) samplesT (pick (eqb c 119) samplesW (pick (eqb c 120) samplesX [])))))))))))))
 
 abbrev pub at : ℕ → ℕ → Row
@@ -247,6 +260,11 @@ abbrev pub rotateRow : RotateOp → Row
 rotateRow RotateOp.Rlwimi = at 114 0
 rotateRow RotateOp.Rlwinm = at 114 2
 
+abbrev pub rotateDoubleRow : RotateDoubleOp → Row
+rotateDoubleRow RotateDoubleOp.Rldicl = at 114 7
+rotateDoubleRow RotateDoubleOp.Rldicr = at 114 9
+rotateDoubleRow RotateDoubleOp.Rldimi = at 114 11
+
 abbrev pub shiftRow : ShiftOp → Row
 shiftRow ShiftOp.Slw = at 115 21
 shiftRow ShiftOp.Srw = at 115 23
@@ -298,6 +316,8 @@ rowOf (Instr.Arithmetic (Arithmetic.Immediate op rt ra si)) = arithImmRow op
 rowOf (Instr.Arithmetic (Arithmetic.Register op rt ra rb oe rc)) = rowAfter (arithRow op) (2 * digit oe + digit rc)
 rowOf (Instr.Arithmetic (Arithmetic.One op rt ra oe rc)) = rowAfter (arithOneRow op) (2 * digit oe + digit rc)
 rowOf (Instr.Arithmetic (Arithmetic.Multiply sign rt ra rb rc)) = rowAfter (multiplyRow sign) (digit rc)
+rowOf (Instr.Arithmetic (Arithmetic.MultiplyImm rt ra si)) = at 109 10
+rowOf (Instr.Arithmetic (Arithmetic.MultiplyLow rt ra rb oe rc)) = at 109 (11 + (2 * digit oe + digit rc))
 rowOf (Instr.Logical (Logical.Immediate op rs ra ui)) = logicImmRow op
 rowOf (Instr.Logical (Logical.Register op rs ra rb rc)) = rowAfter (logicRow op) (digit rc)
 rowOf (Instr.Logical (Logical.One op rs ra rc)) = rowAfter (logicOneRow op) (digit rc)
@@ -307,6 +327,7 @@ rowOf (Instr.Rotate (Rotate.Immediate op rs ra sh mb me rc)) = rowAfter (rotateR
 rowOf (Instr.Rotate (Rotate.Register rs ra rb mb me rc)) = at 114 (4 + digit rc)
 rowOf (Instr.Rotate (Rotate.Shift op rs ra rb rc)) = rowAfter (shiftRow op) (digit rc)
 rowOf (Instr.Rotate (Rotate.Srawi rs ra sh rc)) = at 115 (27 + digit rc)
+rowOf (Instr.Rotate (Rotate.Double op ds da sh mb rc)) = rowAfter (rotateDoubleRow op) (digit rc)
 rowOf (Instr.LoadStore (LoadStore.Load width update rt ra d)) = rowAfter (loadRow width) (digit update)
 rowOf (Instr.LoadStore (LoadStore.LoadIndexed width rt ra rb)) = loadIndexedRow width
 rowOf (Instr.LoadStore (LoadStore.Store width update rs ra d)) = rowAfter (storeRow width) (digit update)

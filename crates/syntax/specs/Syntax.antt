@@ -1,10 +1,12 @@
 -- The syntax lines of 9.4 as one table: what stands in the line of each instruction, byte by byte and operand by operand.
 use Prim.Native.Nat.{ℕ}
 use Prim.Native.String.{String}
-use mathlib.Core.Bool.{Bool, true, false, _&&_}
+use mathlib.Core.Bool.{Bool, true, false, _||_}
 use mathlib.Core.List.{List, [], _∷_, _++_}
 use lib.Dec.{eqb}
 use Rattle.word.specs.Bits.{digit}
+use Rattle.insn.specs.Profile.{is42x, arithmeticOn42, rotateOn42}
+use Rattle.insn.specs.declared.profile.Profile.{Profile}
 use Rattle.insn.specs.declared.instr.Instr.{Instr}
 use Rattle.insn.specs.declared.instr.Arithmetic.{Arithmetic}
 use Rattle.insn.specs.declared.instr.Logical.{Logical}
@@ -18,7 +20,7 @@ use Rattle.insn.specs.declared.instr.SprOp.{SprOp}
 use Rattle.insn.specs.declared.instr.CacheOp.{CacheOp}
 use Rattle.insn.specs.declared.instr.Sign.{Sign}
 use Rattle.syntax.specs.Text.{bytes}
-use Rattle.syntax.specs.Names.{arithImmName, arithName, arithOneName, multiplyName, logicImmName, logicName, logicOneName, compareImmName, compareName, rotateName, shiftName, loadName, loadIndexedName, storeName, storeIndexedName, loadDoubleName, storeDoubleName, branchName, moveName, cacheName}
+use Rattle.syntax.specs.Names.{arithImmName, arithName, arithOneName, multiplyName, logicImmName, logicName, logicOneName, compareImmName, compareName, rotateName, rotateDoubleName, shiftName, loadName, loadIndexedName, storeName, storeIndexedName, loadDoubleName, storeDoubleName, branchName, moveName, cacheName}
 
 -- which numbers an operand takes: from -h to h - 1; from 0 to n - 1; from -4h to 4h - 4, a multiple of 4
 pub data Range : Type 0 where
@@ -41,6 +43,7 @@ pub data Piece : Type 0 where
   number : Range → ℕ → Piece
 
 -- the operands by their names in 9.4
+-- and IM
 abbrev pub SI : ℕ → List Piece
 SI n = number (signed 0x8000) n ∷ []
 
@@ -50,6 +53,10 @@ UI n = number (unsigned 0x1_0000) n ∷ []
 -- SH, MB, ME, BO and TO
 abbrev pub five : ℕ → List Piece
 five n = number (unsigned 32) n ∷ []
+
+-- SH, MB and ME of a doubleword
+abbrev pub six : ℕ → List Piece
+six n = number (unsigned 64) n ∷ []
 
 abbrev pub BI : ℕ → List Piece
 BI n = number (unsigned 4) n ∷ []
@@ -129,6 +136,8 @@ written (Instr.Arithmetic (Arithmetic.Immediate op rt ra si)) = one (arithImmNam
 written (Instr.Arithmetic (Arithmetic.Register op rt ra rb oe rc)) = spelt (bytes (arithName op) ++ o oe ++ dot rc) (R rt ∷ R ra ∷ R rb ∷ [])
 written (Instr.Arithmetic (Arithmetic.One op rt ra oe rc)) = spelt (bytes (arithOneName op) ++ o oe ++ dot rc) (R rt ∷ R ra ∷ [])
 written (Instr.Arithmetic (Arithmetic.Multiply sign rt ra rb rc)) = spelt (bytes (multiplyName sign) ++ dot rc) (R rt ∷ R ra ∷ R rb ∷ [])
+written (Instr.Arithmetic (Arithmetic.MultiplyImm rt ra si)) = one "mulli" (R rt ∷ R ra ∷ SI si ∷ [])  -- 9.4.60
+written (Instr.Arithmetic (Arithmetic.MultiplyLow rt ra rb oe rc)) = spelt (bytes "mullw" ++ o oe ++ dot rc) (R rt ∷ R ra ∷ R rb ∷ [])  -- 9.4.61
 written (Instr.Logical (Logical.Immediate op rs ra ui)) = one (logicImmName op) (R ra ∷ R rs ∷ UI ui ∷ [])
 written (Instr.Logical (Logical.Register op rs ra rb rc)) = spelt (bytes (logicName op) ++ dot rc) (R ra ∷ R rs ∷ R rb ∷ [])
 written (Instr.Logical (Logical.One op rs ra rc)) = spelt (bytes (logicOneName op) ++ dot rc) (R ra ∷ R rs ∷ [])
@@ -138,6 +147,7 @@ written (Instr.Rotate (Rotate.Immediate op rs ra sh mb me rc)) = spelt (bytes (r
 written (Instr.Rotate (Rotate.Register rs ra rb mb me rc)) = spelt (bytes "rlwnm" ++ dot rc) (R ra ∷ R rs ∷ R rb ∷ five mb ∷ five me ∷ [])  -- 9.4.75
 written (Instr.Rotate (Rotate.Shift op rs ra rb rc)) = spelt (bytes (shiftName op) ++ dot rc) (R ra ∷ R rs ∷ R rb ∷ [])
 written (Instr.Rotate (Rotate.Srawi rs ra sh rc)) = spelt (bytes "srawi" ++ dot rc) (R ra ∷ R rs ∷ five sh ∷ [])  -- 9.4.79
+written (Instr.Rotate (Rotate.Double op ds da sh mb rc)) = spelt (bytes (rotateDoubleName op) ++ dot rc) (R da ∷ R ds ∷ six sh ∷ six mb ∷ [])
 written (Instr.LoadStore (LoadStore.Load width update rt ra d)) = one (loadName width update) (R rt ∷ D update d ra ∷ [])
 written (Instr.LoadStore (LoadStore.LoadIndexed width rt ra rb)) = one (loadIndexedName width) (R rt ∷ RA0 ra ∷ R rb ∷ [])
 written (Instr.LoadStore (LoadStore.Store width update rs ra d)) = one (storeName width update) (R rs ∷ D update d ra ∷ [])
@@ -170,6 +180,18 @@ plain (Instr.LoadStore x) = true
 plain (Instr.Branch (Branch.Always aa lk li)) = true
 plain (Instr.Branch (Branch.Conditional bo bi bd aa lk)) = true
 plain (Instr.System x) = true
+
+-- the mnemonic is one of this core's: mulli, mullw, rldicl, rldicr and rldimi are the 42X's alone (9.2.1, 9.2.3), whatever their operands
+abbrev pub spelledOn : Profile → Instr → Bool
+spelledOn p (Instr.Arithmetic i) = arithmeticOn42 i || is42x p
+spelledOn p (Instr.Logical i) = true
+spelledOn p (Instr.Compare i) = true
+spelledOn p (Instr.Rotate i) = rotateOn42 i || is42x p
+spelledOn p (Instr.LoadStore i) = true
+spelledOn p (Instr.Branch i) = true
+spelledOn p (Instr.Trap to ra rb tg) = true
+spelledOn p (Instr.System i) = true
+spelledOn p (Instr.Cache op hint ra rb) = true
 
 abbrev pub itemOf : Piece → Item
 itemOf (letter c) = lit c

@@ -80,6 +80,8 @@ pub fn number_code(c: u8, v: Value) -> Field
         unsigned_code(0x1_0000, v)
     } else if c == b'N' {
         unsigned_code(32, v)
+    } else if c == b'L' {
+        unsigned_code(64, v)
     } else if c == b'C' {
         unsigned_code(4, v)
     } else if c == b'P' {

@@ -85,7 +85,7 @@ fn put_number(out: &mut [u8], at: usize, c: u8, n: u32) -> usize
 {
     if c == b'S' {
         put_signed(out, at, 1, 0x8000, n)
-    } else if (c == b'U') | (c == b'N') | (c == b'C') | (c == b'P') | (c == b'E') {
+    } else if (c == b'U') | (c == b'N') | (c == b'L') | (c == b'C') | (c == b'P') | (c == b'E') {
         put_decimal(out, at, n, 8)
     } else if c == b'J' {
         put_signed(out, at, 4, 0x80_0000, n)

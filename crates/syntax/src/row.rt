@@ -3,7 +3,7 @@
 ghost use mathlib.Core.Path.{_≡_};
 ghost use Prim.Native.Nat.{_<_};
 ghost use Rattle.word.specs.Bits.{digit};
-ghost use Rattle.syntax.specs.Rows.{SameRow, rowAfter, rowOf, arithImmRow, arithRow, arithOneRow, multiplyRow, logicImmRow, logicRow, logicOneRow, compareImmRow, compareRow, rotateRow, shiftRow, loadRow, loadIndexedRow, storeRow, storeIndexedRow, branchRow, sprRow, moveRow, cacheRow};
+ghost use Rattle.syntax.specs.Rows.{SameRow, rowAfter, rowOf, arithImmRow, arithRow, arithOneRow, multiplyRow, logicImmRow, logicRow, logicOneRow, compareImmRow, compareRow, rotateRow, rotateDoubleRow, shiftRow, loadRow, loadIndexedRow, storeRow, storeIndexedRow, branchRow, sprRow, moveRow, cacheRow};
 ghost use Rattle.insn.specs.declared.instr.Instr.{Instr};
 use insn::instr::*;
 use word::width::Width;
@@ -57,6 +57,8 @@ fn arithmetic(x: Arithmetic) -> Row
         Arithmetic::Register { op, oe, rc, .. } => plus(arith_row(op), 2 * bit(oe) + bit(rc)),
         Arithmetic::One { op, oe, rc, .. } => plus(arith_one_row(op), 2 * bit(oe) + bit(rc)),
         Arithmetic::Multiply { sign, rc, .. } => plus(multiply_row(sign), bit(rc)),
+        Arithmetic::MultiplyImm { .. } => at(b'm', 10),
+        Arithmetic::MultiplyLow { oe, rc, .. } => at(b'm', 11 + (2 * bit(oe) + bit(rc))),
     }
 }
 
@@ -87,6 +89,7 @@ fn rotate(x: Rotate) -> Row
         Rotate::Register { rc, .. } => at(b'r', 4 + bit(rc)),
         Rotate::Shift { op, rc, .. } => plus(shift_row(op), bit(rc)),
         Rotate::Srawi { rc, .. } => at(b's', 27 + bit(rc)),
+        Rotate::Double { op, rc, .. } => plus(rotate_double_row(op), bit(rc)),
     }
 }
 
@@ -234,6 +237,16 @@ fn rotate_row(op: RotateOp) -> Row
     match op {
         RotateOp::Rlwimi => at(b'r', 0),
         RotateOp::Rlwinm => at(b'r', 2),
+    }
+}
+
+fn rotate_double_row(op: RotateDoubleOp) -> Row
+    ensures { λ r. ⌜ SameRow r (rotateDoubleRow op) × (r .row < 64) ⌝ }
+{
+    match op {
+        RotateDoubleOp::Rldicl => at(b'r', 7),
+        RotateDoubleOp::Rldicr => at(b'r', 9),
+        RotateDoubleOp::Rldimi => at(b'r', 11),
     }
 }
 

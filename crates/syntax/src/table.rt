@@ -1,11 +1,12 @@
 // The syntax lines of 9.4, a row of 28 bytes for each mnemonic: the word of one of its instructions, and what stands in its
 // lines. R is a register, Z a register or a lone 0, and each other upper-case letter a number: S signed and U unsigned of 16
-// bits, N of five, C of two, P of ten and E of one; J and K the targets of b and bc.
+// bits, N of five, L of six, C of two, P of ten and E of one; J and K the targets of b and bc.
 ghost use mathlib.Core.Path.{_≡_};
 ghost use Prim.Native.Nat.{ℕ, _*_, _+_, _≤_, _<_};
 ghost use lib.ListN.{length};
 ghost use lib.Seq.{sets};
 ghost use mathlib.Core.List.{[]};
+ghost use Rattle.insn.specs.declared.profile.Profile.{Profile};
 ghost use Rattle.syntax.specs.declared.table.Job.{Job};
 ghost use Rattle.syntax.specs.declared.table.Done.{Done};
 ghost use Rattle.syntax.specs.Rows.{samples, samplesA, samplesB, samplesC, samplesD, samplesE, samplesL, samplesM, samplesN, samplesO, samplesR, samplesS, samplesT, samplesW, samplesX};
@@ -16,6 +17,7 @@ use crate::line::line;
 use crate::print::print;
 use crate::queue::Queue;
 use crate::row::Row;
+use insn::profile::Profile;
 
 // What is done with the rows of a letter: a line is read, or a row printed.
 pub enum Job {
@@ -97,7 +99,8 @@ fn work(job: Job, text: &[u8], out: &mut [u8], rows: &[u8], count: usize) -> Don
     }
 }
 
-// The rows whose mnemonics begin with a letter: a function for each, so that only its rows are laid out in memory.
+// The rows whose mnemonics begin with a letter: a function for each, so that only its rows are laid out in memory. The 42X's
+// alone stand last, and the 42 is held back from them.
 fn rows_of_a(job: Job, text: &[u8], out: &mut [u8]) -> Done
     requires { ⌜ Printable (length samplesA) job (now out) ⌝ }
     ensures { λ r. ⌜ WithRows samplesA job (now (text .entry)) (now (out .entry)) (now (out .exit)) r ⌝ }
@@ -215,9 +218,9 @@ A4020000 lhzu R,S(R);       \
     work(job, text, out, rows, 11)
 }
 
-fn rows_of_m(job: Job, text: &[u8], out: &mut [u8]) -> Done
-    requires { ⌜ Printable (length samplesM) job (now out) ⌝ }
-    ensures { λ r. ⌜ WithRows samplesM job (now (text .entry)) (now (out .entry)) (now (out .exit)) r ⌝ }
+fn rows_of_m(profile: Profile, job: Job, text: &[u8], out: &mut [u8]) -> Done
+    requires { ⌜ Printable (length (samplesM profile)) job (now out) ⌝ }
+    ensures { λ r. ⌜ WithRows (samplesM profile) job (now (text .entry)) (now (out .entry)) (now (out .exit)) r ⌝ }
 {
     let rows = b"\
 10000350 mullhw R,R,R;      \
@@ -229,8 +232,16 @@ fn rows_of_m(job: Job, text: &[u8], out: &mut [u8]) -> Done
 7C000026 mfcr R;            \
 7C080120 mtcr0 R;           \
 7C0000A6 mfmsr R;           \
-7C000124 mtmsr R;           ";
-    work(job, text, out, rows, 10)
+7C000124 mtmsr R;           \
+1C000000 mulli R,R,S;       \
+7C0001D6 mullw R,R,R;       \
+7C0001D7 mullw. R,R,R;      \
+7C0005D6 mullwo R,R,R;      \
+7C0005D7 mullwo. R,R,R;     ";
+    match profile {
+        Profile::Ppe42 => work(job, text, out, rows, 10),
+        Profile::Ppe42x => work(job, text, out, rows, 15),
+    }
 }
 
 fn rows_of_n(job: Job, text: &[u8], out: &mut [u8]) -> Done
@@ -263,9 +274,9 @@ fn rows_of_o(job: Job, text: &[u8], out: &mut [u8]) -> Done
     work(job, text, out, rows, 6)
 }
 
-fn rows_of_r(job: Job, text: &[u8], out: &mut [u8]) -> Done
-    requires { ⌜ Printable (length samplesR) job (now out) ⌝ }
-    ensures { λ r. ⌜ WithRows samplesR job (now (text .entry)) (now (out .entry)) (now (out .exit)) r ⌝ }
+fn rows_of_r(profile: Profile, job: Job, text: &[u8], out: &mut [u8]) -> Done
+    requires { ⌜ Printable (length (samplesR profile)) job (now out) ⌝ }
+    ensures { λ r. ⌜ WithRows (samplesR profile) job (now (text .entry)) (now (out .entry)) (now (out .exit)) r ⌝ }
 {
     let rows = b"\
 50000000 rlwimi R,R,N,N,N;  \
@@ -274,8 +285,17 @@ fn rows_of_r(job: Job, text: &[u8], out: &mut [u8]) -> Done
 54000001 rlwinm. R,R,N,N,N; \
 5C000000 rlwnm R,R,R,N,N;   \
 5C000001 rlwnm. R,R,R,N,N;  \
-4C000064 rfi;               ";
-    work(job, text, out, rows, 7)
+4C000064 rfi;               \
+78000000 rldicl R,R,L,L;    \
+78000001 rldicl. R,R,L,L;   \
+78000004 rldicr R,R,L,L;    \
+78000005 rldicr. R,R,L,L;   \
+7800000C rldimi R,R,L,L;    \
+7800000D rldimi. R,R,L,L;   ";
+    match profile {
+        Profile::Ppe42 => work(job, text, out, rows, 7),
+        Profile::Ppe42x => work(job, text, out, rows, 13),
+    }
 }
 
 fn rows_of_s(job: Job, text: &[u8], out: &mut [u8]) -> Done
@@ -358,9 +378,9 @@ fn rows_of_x(job: Job, text: &[u8], out: &mut [u8]) -> Done
     work(job, text, out, rows, 4)
 }
 
-pub fn at_letter(c: u8, job: Job, text: &[u8], out: &mut [u8]) -> Done
-    requires { ⌜ Printable (length (samples c)) job (now out) ⌝ }
-    ensures { λ r. ⌜ WithRows (samples c) job (now (text .entry)) (now (out .entry)) (now (out .exit)) r ⌝ }
+pub fn at_letter(profile: Profile, c: u8, job: Job, text: &[u8], out: &mut [u8]) -> Done
+    requires { ⌜ Printable (length (samples profile c)) job (now out) ⌝ }
+    ensures { λ r. ⌜ WithRows (samples profile c) job (now (text .entry)) (now (out .entry)) (now (out .exit)) r ⌝ }
 {
     match c {
         b'a' => rows_of_a(job, text, out),
@@ -369,10 +389,10 @@ pub fn at_letter(c: u8, job: Job, text: &[u8], out: &mut [u8]) -> Done
         b'd' => rows_of_d(job, text, out),
         b'e' => rows_of_e(job, text, out),
         b'l' => rows_of_l(job, text, out),
-        b'm' => rows_of_m(job, text, out),
+        b'm' => rows_of_m(profile, job, text, out),
         b'n' => rows_of_n(job, text, out),
         b'o' => rows_of_o(job, text, out),
-        b'r' => rows_of_r(job, text, out),
+        b'r' => rows_of_r(profile, job, text, out),
         b's' => rows_of_s(job, text, out),
         b't' => rows_of_t(job, text, out),
         b'w' => rows_of_w(job, text, out),
@@ -381,12 +401,13 @@ pub fn at_letter(c: u8, job: Job, text: &[u8], out: &mut [u8]) -> Done
     }
 }
 
-// The row of an instruction's mnemonic printed with its operands.
+// The row of an instruction's mnemonic printed with its operands: the 42X has every row.
 pub fn print_row(out: &mut [u8], row: Row, fields: Queue) -> usize
-    requires { ⌜ Printable (length (samples (row .letter))) (Job.Print (row .row) fields) (now out) ⌝ }
-    ensures { λ r. ⌜ WithRows (samples (row .letter)) (Job.Print (row .row) fields) [] (now (out .entry)) (now (out .exit)) (Done.Printed r) ⌝ }
+    requires { ⌜ Printable (length (samples Profile.Ppe42x (row .letter))) (Job.Print (row .row) fields) (now out) ⌝ }
+    ensures { λ r. ⌜ WithRows (samples Profile.Ppe42x (row .letter)) (Job.Print (row .row) fields) [] (now (out .entry)) (now (out .exit)) (Done.Printed r) ⌝ }
 {
-    let done = at_letter(row.letter, Job::Print(row.row, fields), b"", out);
+    let job = Job::Print(row.row, fields);
+    let done = at_letter(Profile::Ppe42x, row.letter, job, b"", out);
     match done {
         Done::Printed(n) => n,
         Done::Row(_, _) => 0,

@@ -1,6 +1,6 @@
 -- The synchronous interrupt that an instruction raises, if it raises one (4.5.3, 4.5.4, 4.5.6, 4.5.7, 7.5.1).
 use Prim.Native.Nat.{ℕ}
-use mathlib.Core.Bool.{Bool, true, false}
+use mathlib.Core.Bool.{Bool, true, false, _&&_, _||_}
 use mathlib.Core.List.{List}
 use lib.Dec.{eqb}
 use lib.ListN.{length}
@@ -11,11 +11,13 @@ use Rattle.memory.specs.Load.{fetchOf}
 use Rattle.memory.specs.Store.{blockAt}
 use Rattle.memory.specs.declared.access.Access.{Access}
 use Rattle.memory.specs.declared.load.Loaded.{Loaded}
-use Rattle.insn.specs.Read.{decodeOf}
+use Rattle.insn.specs.Read.{decodeOn}
 use Rattle.insn.specs.declared.instr.Instr.{Instr}
 use Rattle.insn.specs.declared.instr.Decoded.{Decoded}
 use Rattle.insn.specs.declared.instr.LoadStore.{LoadStore}
 use Rattle.insn.specs.declared.instr.CacheOp.{CacheOp}
+use Rattle.insn.specs.Profile.{is42x}
+use Rattle.insn.specs.declared.profile.Profile.{Profile}
 use Rattle.machine.specs.LoadStore.{offsetEa, indexedEa}
 use Rattle.machine.specs.declared.state.State.{State}
 use Rattle.machine.specs.declared.interrupt.Cause.{Cause}
@@ -41,29 +43,29 @@ cacheRaises s m CacheOp.Dcbi ra rb = Raised.Nothing
 cacheRaises s m CacheOp.Dcbt ra rb = Raised.Nothing
 cacheRaises s m CacheOp.Dcbz ra rb = accessRaises (accessOf (length m) (blockAt (indexedEa s ra rb)) 32) (indexedEa s ra rb) true
 
-abbrev pub trapRaises : State → ℕ → ℕ → Raised
-trapRaises s word to = pick (eqb to 0) Raised.Nothing (pick (bitAt (s .dbcr) 7) Raised.Nothing (Raised.Raises (Cause.Program word true)))
+abbrev pub trapRaises : Profile → State → ℕ → ℕ → Bool → Raised
+trapRaises p s word to tg = pick (eqb to 0 || is42x p && tg) Raised.Nothing (pick (bitAt (s .dbcr) 7) Raised.Nothing (Raised.Raises (Cause.Program word true)))
 
-abbrev pub executeRaises : State → List ℕ → ℕ → Instr → Raised
-executeRaises s m w (Instr.Arithmetic i) = Raised.Nothing
-executeRaises s m w (Instr.Logical i) = Raised.Nothing
-executeRaises s m w (Instr.Compare i) = Raised.Nothing
-executeRaises s m w (Instr.Rotate i) = Raised.Nothing
-executeRaises s m w (Instr.LoadStore i) = loadStoreRaises s m i
-executeRaises s m w (Instr.Branch i) = Raised.Nothing
-executeRaises s m w (Instr.Trap to ra rb tg) = trapRaises s w to
-executeRaises s m w (Instr.System i) = Raised.Nothing
-executeRaises s m w (Instr.Cache op hint ra rb) = cacheRaises s m op ra rb
+abbrev pub executeRaises : Profile → State → List ℕ → ℕ → Instr → Raised
+executeRaises p s m w (Instr.Arithmetic i) = Raised.Nothing
+executeRaises p s m w (Instr.Logical i) = Raised.Nothing
+executeRaises p s m w (Instr.Compare i) = Raised.Nothing
+executeRaises p s m w (Instr.Rotate i) = Raised.Nothing
+executeRaises p s m w (Instr.LoadStore i) = loadStoreRaises s m i
+executeRaises p s m w (Instr.Branch i) = Raised.Nothing
+executeRaises p s m w (Instr.Trap to ra rb tg) = trapRaises p s w to tg
+executeRaises p s m w (Instr.System i) = Raised.Nothing
+executeRaises p s m w (Instr.Cache op hint ra rb) = cacheRaises s m op ra rb
 
-abbrev pub decodedRaises : State → List ℕ → ℕ → Decoded → Raised
-decodedRaises s m w (Decoded.Insn i) = executeRaises s m w i
-decodedRaises s m w Decoded.Illegal = Raised.Raises (Cause.Program w false)
+abbrev pub decodedRaises : Profile → State → List ℕ → ℕ → Decoded → Raised
+decodedRaises p s m w (Decoded.Insn i) = executeRaises p s m w i
+decodedRaises p s m w Decoded.Illegal = Raised.Raises (Cause.Program w false)
 
-abbrev pub fetchedRaises : State → List ℕ → Loaded → Raised
-fetchedRaises s m (Loaded.Value w) = decodedRaises s m w (decodeOf w)
-fetchedRaises s m Loaded.Unaligned = Raised.Raises Cause.InstructionStorage
-fetchedRaises s m Loaded.Outside = Raised.Raises Cause.InstructionStorage
+abbrev pub fetchedRaises : Profile → State → List ℕ → Loaded → Raised
+fetchedRaises p s m (Loaded.Value w) = decodedRaises p s m w (decodeOn p w)
+fetchedRaises p s m Loaded.Unaligned = Raised.Raises Cause.InstructionStorage
+fetchedRaises p s m Loaded.Outside = Raised.Raises Cause.InstructionStorage
 
 -- of the instruction at IAR
-unfoldable pub raisedOf : State → List ℕ → Raised
-raisedOf s m = fetchedRaises s m (fetchOf m (s .iar))
+unfoldable pub raisedOf : Profile → State → List ℕ → Raised
+raisedOf p s m = fetchedRaises p s m (fetchOf m (s .iar))

@@ -4,6 +4,7 @@ use mathlib.Core.List.{List}
 use lib.Dec.{eqb}
 use Rattle.word.specs.Bits.{bitAt}
 use Rattle.memory.specs.Access.{pick}
+use Rattle.insn.specs.declared.profile.Profile.{Profile}
 use Rattle.machine.specs.Timer.{tickedOf, actsOf}
 use Rattle.machine.specs.Step.{highestOf}
 use Rattle.machine.specs.declared.state.State.{State}
@@ -20,15 +21,15 @@ runningTold Raised.Nothing = Told.Executes
 runningTold (Raised.Raises c) = Told.Faults c
 
 -- line 4, an asynchronous interrupt, then line 5, MSR[WE] (13)
-abbrev pub interruptibleTold : State → List ℕ → Pending → Told
-interruptibleTold s m (Pending.Take v) = Told.Takes v
-interruptibleTold s m Pending.Nothing = pick (bitAt (s .msr) 13) Told.Waits (runningTold (raisedOf s m))
+abbrev pub interruptibleTold : Profile → State → List ℕ → Pending → Told
+interruptibleTold p s m (Pending.Take v) = Told.Takes v
+interruptibleTold p s m Pending.Nothing = pick (bitAt (s .msr) 13) Told.Waits (runningTold (raisedOf p s m))
 
 -- line 1, halted; line 2, the events; line 3, the watchdog's action
-unfoldable pub toldOf : State → List ℕ → ℕ → Told
-toldOf s m e =
+unfoldable pub toldOf : Profile → State → List ℕ → ℕ → Told
+toldOf p s m e =
     let t = tickedOf s e in
-    pick (eqb (s .halt) 0) (pick (actsOf s e) Told.Acts (interruptibleTold t m (highestOf t e))) Told.Halted
+    pick (eqb (s .halt) 0) (pick (actsOf s e) Told.Acts (interruptibleTold p t m (highestOf t e))) Told.Halted
 
 -- no step takes one of the last five
 abbrev pub vectorCode : Vector → ℕ

@@ -9,11 +9,12 @@ use Rattle.memory.specs.Access.{pick}
 use Rattle.memory.specs.Load.{fetchOf}
 use Rattle.memory.specs.Store.{blockAt}
 use Rattle.memory.specs.declared.load.Loaded.{Loaded}
-use Rattle.insn.specs.Read.{decodeOf}
+use Rattle.insn.specs.Read.{decodeOn}
 use Rattle.insn.specs.declared.instr.Instr.{Instr}
 use Rattle.insn.specs.declared.instr.Decoded.{Decoded}
 use Rattle.insn.specs.declared.instr.LoadStore.{LoadStore}
 use Rattle.insn.specs.declared.instr.CacheOp.{CacheOp}
+use Rattle.insn.specs.declared.profile.Profile.{Profile}
 use Rattle.machine.specs.LoadStore.{offsetEa, indexedEa}
 use Rattle.machine.specs.Timer.{tickedOf, actsOf}
 use Rattle.machine.specs.Step.{highestOf}
@@ -50,10 +51,10 @@ abbrev pub decodedUse : State → Decoded → Use
 decodedUse s (Decoded.Insn i) = executeUse s i
 decodedUse s Decoded.Illegal = Use.Idle
 
-abbrev pub fetchedUse : State → Loaded → Use
-fetchedUse s (Loaded.Value w) = decodedUse s (decodeOf w)
-fetchedUse s Loaded.Unaligned = Use.Idle
-fetchedUse s Loaded.Outside = Use.Idle
+abbrev pub fetchedUse : Profile → State → Loaded → Use
+fetchedUse p s (Loaded.Value w) = decodedUse s (decodeOn p w)
+fetchedUse p s Loaded.Unaligned = Use.Idle
+fetchedUse p s Loaded.Outside = Use.Idle
 
 abbrev pub free : Pending → Bool
 free (Pending.Take v) = false
@@ -64,5 +65,5 @@ unfoldable pub executes : State → ℕ → Bool
 executes s e = eqb (s .halt) 0 && not (actsOf s e) && free (highestOf (tickedOf s e) e) && not (bitAt (tickedOf s e .msr) 13)
 
 -- of a whole step; an access that is not served is asked for too
-unfoldable pub useOf : State → List ℕ → ℕ → Use
-useOf s m e = let t = tickedOf s e in pick (executes s e) (fetchedUse t (fetchOf m (t .iar))) Use.Idle
+unfoldable pub useOf : Profile → State → List ℕ → ℕ → Use
+useOf p s m e = let t = tickedOf s e in pick (executes s e) (fetchedUse p t (fetchOf m (t .iar))) Use.Idle

@@ -1,11 +1,13 @@
 // The synchronous interrupt that an instruction raises, if it raises one.
 ghost use mathlib.Core.Path.{_≡_};
-ghost use Rattle.insn.specs.Read.{decodeOf};
+ghost use Rattle.insn.specs.Read.{decodeOn};
 ghost use Rattle.tell.specs.Fault.{accessRaises, loadStoreRaises, cacheRaises, trapRaises, executeRaises, decodedRaises, raisedOf};
 use insn::instr::CacheOp;
 use insn::instr::Decoded;
 use insn::instr::Instr;
 use insn::instr::LoadStore;
+use insn::profile::Profile;
+use insn::profile::is_42x;
 use insn::read::read;
 use machine::interrupt::Cause;
 use machine::state::State;
@@ -110,10 +112,10 @@ fn cache_raises(state: State, mem: &[u8], op: CacheOp, ra: u8, rb: u8) -> Raised
     }
 }
 
-fn trap_raises(state: State, word: u32, to: u8) -> Raised
-    ensures { λ r. ⌜ r ≡ trapRaises state word to ⌝ }
+fn trap_raises(profile: Profile, state: State, word: u32, to: u8, tg: bool) -> Raised
+    ensures { λ r. ⌜ r ≡ trapRaises profile state word to tg ⌝ }
 {
-    if to == 0 {
+    if (to == 0) | is_42x(profile) & tg {
         return Raised::Nothing;
     }
     if bit_at(state.dbcr, Bit(7)) {
@@ -122,8 +124,8 @@ fn trap_raises(state: State, word: u32, to: u8) -> Raised
     Raised::Raises(Cause::Program { word, trap: true })
 }
 
-fn execute_raises(state: State, mem: &[u8], word: u32, i: Instr) -> Raised
-    ensures { λ r. ⌜ r ≡ executeRaises state (now (mem .entry)) word i ⌝ }
+fn execute_raises(profile: Profile, state: State, mem: &[u8], word: u32, i: Instr) -> Raised
+    ensures { λ r. ⌜ r ≡ executeRaises profile state (now (mem .entry)) word i ⌝ }
 {
     match i {
         Instr::Arithmetic(_) => Raised::Nothing,
@@ -136,8 +138,8 @@ fn execute_raises(state: State, mem: &[u8], word: u32, i: Instr) -> Raised
             to,
             ra: _,
             rb: _,
-            tg: _,
-        } => trap_raises(state, word, to),
+            tg,
+        } => trap_raises(profile, state, word, to, tg),
         Instr::System(_) => Raised::Nothing,
         Instr::Cache {
             op,
@@ -148,23 +150,23 @@ fn execute_raises(state: State, mem: &[u8], word: u32, i: Instr) -> Raised
     }
 }
 
-fn decoded_raises(state: State, mem: &[u8], word: u32) -> Raised
-    ensures { λ r. ⌜ r ≡ decodedRaises state (now (mem .entry)) word (decodeOf word) ⌝ }
+fn decoded_raises(profile: Profile, state: State, mem: &[u8], word: u32) -> Raised
+    ensures { λ r. ⌜ r ≡ decodedRaises profile state (now (mem .entry)) word (decodeOn profile word) ⌝ }
 {
-    let what = read(word);
+    let what = read(profile, word);
     match what {
-        Decoded::Insn(i) => execute_raises(state, mem, word, i),
+        Decoded::Insn(i) => execute_raises(profile, state, mem, word, i),
         Decoded::Illegal => Raised::Raises(Cause::Program { word, trap: false }),
     }
 }
 
 // Of the instruction at IAR.
-pub fn running_raises(state: State, mem: &[u8]) -> Raised
-    ensures { λ r. ⌜ r ≡ raisedOf state (now (mem .entry)) ⌝ }
+pub fn running_raises(profile: Profile, state: State, mem: &[u8]) -> Raised
+    ensures { λ r. ⌜ r ≡ raisedOf profile state (now (mem .entry)) ⌝ }
 {
     let got = fetch(mem, state.iar);
     match got {
-        Loaded::Value(word) => decoded_raises(state, mem, word),
+        Loaded::Value(word) => decoded_raises(profile, state, mem, word),
         Loaded::Unaligned => Raised::Raises(Cause::InstructionStorage),
         Loaded::Outside => Raised::Raises(Cause::InstructionStorage),
     }

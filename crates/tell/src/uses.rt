@@ -2,12 +2,13 @@
 ghost use mathlib.Core.Path.{_≡_};
 ghost use Rattle.word.specs.Width.{bytes};
 ghost use Rattle.memory.specs.Load.{fetchOf};
-ghost use Rattle.insn.specs.Read.{decodeOf};
+ghost use Rattle.insn.specs.Read.{decodeOn};
 ghost use Rattle.tell.specs.Uses.{loadStoreUse, cacheUse, executeUse, decodedUse, fetchedUse, free, executes, useOf};
 use insn::instr::CacheOp;
 use insn::instr::Decoded;
 use insn::instr::Instr;
 use insn::instr::LoadStore;
+use insn::profile::Profile;
 use insn::read::read;
 use machine::state::State;
 use machine::step::Pending;
@@ -135,22 +136,22 @@ fn execute_use(state: State, i: Instr) -> Use
     }
 }
 
-fn decoded_use(state: State, word: u32) -> Use
-    ensures { λ r. ⌜ r ≡ decodedUse state (decodeOf word) ⌝ }
+fn decoded_use(profile: Profile, state: State, word: u32) -> Use
+    ensures { λ r. ⌜ r ≡ decodedUse state (decodeOn profile word) ⌝ }
 {
-    let what = read(word);
+    let what = read(profile, word);
     match what {
         Decoded::Insn(i) => execute_use(state, i),
         Decoded::Illegal => Use::Idle,
     }
 }
 
-fn fetched_use(state: State, mem: &[u8]) -> Use
-    ensures { λ r. ⌜ r ≡ fetchedUse state (fetchOf (now (mem .entry)) (state .iar)) ⌝ }
+fn fetched_use(profile: Profile, state: State, mem: &[u8]) -> Use
+    ensures { λ r. ⌜ r ≡ fetchedUse profile state (fetchOf (now (mem .entry)) (state .iar)) ⌝ }
 {
     let got = fetch(mem, state.iar);
     match got {
-        Loaded::Value(word) => decoded_use(state, word),
+        Loaded::Value(word) => decoded_use(profile, state, word),
         Loaded::Unaligned => Use::Idle,
         Loaded::Outside => Use::Idle,
     }
@@ -178,11 +179,11 @@ fn executes(state: State, event: u8) -> bool
 }
 
 // The data access that a step tries, served or not.
-pub fn used(state: State, mem: &[u8], event: u8) -> Use
-    ensures { λ r. ⌜ r ≡ useOf state (now (mem .entry)) event ⌝ }
+pub fn used(profile: Profile, state: State, mem: &[u8], event: u8) -> Use
+    ensures { λ r. ⌜ r ≡ useOf profile state (now (mem .entry)) event ⌝ }
 {
     if executes(state, event) {
-        return fetched_use(state.tick(event), mem);
+        return fetched_use(profile, state.tick(event), mem);
     }
     Use::Idle
 }

@@ -1,4 +1,5 @@
 -- `bench::play` meets its contract: the memory part is a part of the file. Assumes nothing.
+use Rattle.insn.specs.declared.profile.Profile.{Profile}
 use Rattle.bench.proofs.Laws.{part-le}
 use lib.Seq.{length-take-le}
 use lib.ListN.{length}
@@ -15,8 +16,8 @@ play-spec =
     (λ c κs. search needs)
     (λ c κs. search needs)
     (λ c κs. search needs)
-    (λ c. rw (c .memory-part .ensures) (part-le (c .before .before .before .before .before .before .before .before .args .file .now)))
-    (λ c. let h : length (c .before .memory-part .result .now) ≤ length (c .before .before .before .before .before .before .before .before .before .args .file .now) = rw (c .before .memory-part .ensures) (part-le (c .before .before .before .before .before .before .before .before .before .args .file .now)) in sym (length-take-le _ _ h))
+    (λ c. rw (c .memory-part .ensures) (part-le Profile.Ppe42 (c .before .before .before .before .before .before .before .before .args .file .now)))
+    (λ c. let h : length (c .before .memory-part .result .now) ≤ length (c .before .before .before .before .before .before .before .before .before .args .file .now) = rw (c .before .memory-part .ensures) (part-le Profile.Ppe42 (c .before .before .before .before .before .before .before .before .before .args .file .now)) in sym (length-take-le _ _ h))
     (λ c. search needs)
     (λ c κs. search needs)
     (λ c κs. search needs)

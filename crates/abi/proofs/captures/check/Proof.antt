@@ -12,6 +12,6 @@ check-spec =
     (tie.spec
     (λ c κs. search needs)
     (λ c κs. search needs)
-    (λ c. rw (c .memory-part .ensures) (record { fits = memory-small _ }))
+    (λ c. rw (c .memory-part .ensures) (record { fits = memory-small _ _ }))
     (λ c κs. search needs)
     (λ c. rw (c .answer .ensures .0, c .before .before .state-of .ensures, c .before .memory-part .ensures)))

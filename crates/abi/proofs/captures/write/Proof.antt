@@ -16,7 +16,7 @@ write-spec =
     (λ c. rw (ne-eqb _ _ (c .before .if1 .taken)) (c .answer .ensures .0, refl))
     (λ c κs. search needs)
     (λ c κs. search needs)
-    (λ c. rw (c .before .before .before .write .ensures .0) (record { fits = bytes-small _ _ _ }))
+    (λ c. rw (c .before .before .before .write .ensures .0) (record { fits = bytes-small _ _ _ _ }))
     (λ c κs. search needs)
     (λ c. search needs)
     (λ c. rw (eq-eqb _ _ (c .before .before .before .before .before .before .before .if1 .left), ← (c .before .before .before .before .before .before .state-at .ensures), ← (c .before .before .before .before .write .ensures .0), ← (c .before .before .before .before .write .ensures .1)) (c .answer2 .ensures .0, refl)))

@@ -16,16 +16,16 @@ mul-result : tie.Need-mul-result
 mul-result c = search needs
 
 mul-result-2 : tie.Need-mul-result-2
-mul-result-2 c = record { fits = omega (arith, packed-fits _ _ (c .before .assemble .ensures) .0) }
+mul-result-2 c = record { fits = omega (arith, packed-fits _ _ _ (c .before .assemble .ensures) .0) }
 
 add-result : tie.Need-add-result
-add-result c = record { fits = omega (arith, packed-fits _ _ (c .before .assemble .ensures) .1) }
+add-result c = record { fits = omega (arith, packed-fits _ _ _ (c .before .assemble .ensures) .1) }
 
 cast-result-2 : tie.Need-cast-result-2
 cast-result-2 c = search needs
 
 add-result-2 : tie.Need-add-result-2
-add-result-2 c = record { fits = omega (arith, packed-fits _ _ (c .before .before .assemble .ensures) .1, c .struct-known2 .given) }
+add-result-2 c = record { fits = omega (arith, packed-fits _ _ _ (c .before .before .assemble .ensures) .1, c .struct-known2 .given) }
 
 returns : tie.Need-returns
 returns c = record { answer = _; given = c .before .before .assemble .ensures; packed = refl }

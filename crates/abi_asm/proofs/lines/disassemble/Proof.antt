@@ -1,5 +1,5 @@
 -- `abi_asm::lines::disassemble` meets its contract: each kind of listing as its number. Assumes nothing.
-use Rattle.insn.specs.Read.{decodeOf}
+use Rattle.insn.specs.Read.{decodeOn}
 use Rattle.abi_asm.proofs.Laws.{listed-fits, listed-answer}
 use native.Mathlib.Omega.{arith}
 use borrow.Author.Needs.{needs}
@@ -19,10 +19,10 @@ enum-known-listed : tie.Need-enum-known-listed
 enum-known-listed c = search needs
 
 add-result : tie.Need-add-result
-add-result c = record { fits = omega (arith, listed-fits (decodeOf (c .before .before .before .before .before .before .before .before .before .args .word)) (c .before .before .before .before .before .before .before .before .before .args .out .now) _ _ _ (c .before .before .listed .given .1) (c .before .before .before .before .before .before .disassemble .ensures .0)) }
+add-result c = record { fits = omega (arith, listed-fits (decodeOn (c .before .before .before .before .before .before .before .before .before .args .profile) (c .before .before .before .before .before .before .before .before .before .args .word)) (c .before .before .before .before .before .before .before .before .before .args .out .now) _ _ _ (c .before .before .listed .given .1) (c .before .before .before .before .before .before .disassemble .ensures .0)) }
 
 add-result-2 : tie.Need-add-result-2
-add-result-2 c = record { fits = omega (arith, listed-fits (decodeOf (c .before .before .before .before .before .before .before .before .before .args .word)) (c .before .before .before .before .before .before .before .before .before .args .out .now) _ _ _ (c .before .before .listed .given .1) (c .before .before .before .before .before .before .disassemble .ensures .0)) }
+add-result-2 c = record { fits = omega (arith, listed-fits (decodeOn (c .before .before .before .before .before .before .before .before .before .args .profile) (c .before .before .before .before .before .before .before .before .before .args .word)) (c .before .before .before .before .before .before .before .before .before .args .out .now) _ _ _ (c .before .before .listed .given .1) (c .before .before .before .before .before .before .disassemble .ensures .0)) }
 
 same-length : tie.Need-same-length
 same-length c = search needs

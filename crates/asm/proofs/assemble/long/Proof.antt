@@ -32,13 +32,13 @@ refused-requires-3 : tie.Need-refused-requires-3
 refused-requires-3 c κs = search needs
 
 returns : tie.Need-returns
-returns c = long-bad _ _ _ (c .before .before .before .before .before .before .before .pre) (rw (c .before .before .found .given .1) at (c .before .before .before .before .place .ensures)) (c .refused .ensures)
+returns c = long-bad _ _ _ _ (c .before .before .before .before .before .before .before .pre) (rw (c .before .before .found .given .1) at (c .before .before .before .before .place .ensures)) (c .refused .ensures)
 
 returns-2 : tie.Need-returns-2
-returns-2 c = long-row _ _ _ _ (c .before .before .before .before .before .before .pre) (rw (c .before .enum-told .given .1) at (c .before .before .before .place .ensures)) (c .refused2 .ensures)
+returns-2 c = long-row _ _ _ _ _ (c .before .before .before .before .before .before .pre) (rw (c .before .enum-told .given .1) at (c .before .before .before .place .ensures)) (c .refused2 .ensures)
 
 returns-3 : tie.Need-returns-3
-returns-3 c = placed-printed _ _ (rw (c .before .enum-told2 .given .1) at (c .before .before .before .place .ensures))
+returns-3 c = placed-printed _ _ _ (rw (c .before .enum-told2 .given .1) at (c .before .before .before .place .ensures))
 
 pub long-spec : {M : Type 1} → statement M
 long-spec =

@@ -26,13 +26,13 @@ refused-requires-2 : tie.Need-refused-requires-2
 refused-requires-2 c κs = search needs
 
 returns : tie.Need-returns
-returns c = short-bad _ _ _ (c .before .before .before .before .before .before .pre) (rw (c .before .before .found .given .1) at (c .before .before .before .before .place .ensures)) (c .refused .ensures)
+returns c = short-bad _ _ _ _ (c .before .before .before .before .before .before .pre) (rw (c .before .before .found .given .1) at (c .before .before .before .before .place .ensures)) (c .refused .ensures)
 
 returns-2 : tie.Need-returns-2
-returns-2 c = placed-answer _ _ _ _ (rw (c .before .before .found2 .given .1) at (c .before .before .before .before .place .ensures)) (c .before .before .before .before .before .before .pre) (c .settle .ensures)
+returns-2 c = placed-answer _ _ _ _ _ (rw (c .before .before .found2 .given .1) at (c .before .before .before .before .place .ensures)) (c .before .before .before .before .before .before .pre) (c .settle .ensures)
 
 returns-3 : tie.Need-returns-3
-returns-3 c = placed-printed _ _ (rw (c .before .enum-told .given .1) at (c .before .before .before .place .ensures))
+returns-3 c = placed-printed _ _ _ (rw (c .before .enum-told .given .1) at (c .before .before .before .place .ensures))
 
 pub short-spec : {M : Type 1} → statement M
 short-spec =

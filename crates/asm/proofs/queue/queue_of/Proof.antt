@@ -29,7 +29,7 @@ queue-of-spec =
     (λ c. search needs)
     (λ c. search needs)
     (λ c κs. search needs)
-    (λ c. search needs)
+    (λ c. rw (c .before .before .i .given .1, c .arithmetic .ensures))
     (λ c. search needs)
     (λ c. search needs)
     (λ c. search needs)

@@ -14,7 +14,7 @@ write-spec =
     (tie.spec
     (λ c κs. search needs)
     (λ c κs. search needs)
-    (λ c κs. let h = write-accepts (c .before .before .before .before .before .before .args .state) _ _ (rw (← (c .before .before .before .write-refusal .ensures)) (sym (c .before .before .accepts .ensures) ∙ c .before .if1 .taken)) in (sized-bounds _ (h .sized) .1, h .room))
+    (λ c κs. let h = write-accepts (c .before .before .before .before .before .before .args .profile) (c .before .before .before .before .before .before .args .state) _ _ (rw (← (c .before .before .before .write-refusal .ensures)) (sym (c .before .before .accepts .ensures) ∙ c .before .if1 .taken)) in (sized-bounds _ (h .sized) .1, h .room))
     (λ c. search needs)
     (λ c. search needs)
     (λ c. rw (← (c .before .before .before .before .before .before .write-refusal .ensures), sym (c .before .before .before .before .before .accepts .ensures) ∙ c .before .before .before .before .if1 .taken) (refl, c .before .before .put-capture .ensures))

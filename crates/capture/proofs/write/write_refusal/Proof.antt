@@ -18,7 +18,7 @@ write-refusal-spec =
     (λ c κs. search needs)
     (λ c. rw (← (c .before .before .start-refusal .ensures), sym (c .before .accepts .ensures) ∙ not-true _ (c .if1 .taken)))
     (λ c.
-    let a = start-accepts (c .before .before .before .args .state) (c .before .before .before .args .size) (ap acceptsOf (sym (c .before .before .start-refusal .ensures)) ∙ sym (c .before .accepts .ensures) ∙ not-false _ (c .if1 .left)) in
+    let a = start-accepts (c .before .before .before .args .profile) (c .before .before .before .args .state) (c .before .before .before .args .size) (ap acceptsOf (sym (c .before .before .start-refusal .ensures)) ∙ sym (c .before .accepts .ensures) ∙ not-false _ (c .if1 .left)) in
     let h = sized-bounds (c .before .before .before .args .size) (a .0) in
     search needs)
     (λ c. rw (← (c .before .before .before .start-refusal .ensures), sym (c .before .before .accepts .ensures) ∙ not-false _ (c .before .if1 .left), le-leb _ _ (c .if2 .taken)))

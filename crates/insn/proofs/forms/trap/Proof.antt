@@ -10,4 +10,4 @@ trap-spec =
     (λ c κs. tt)
     (λ c κs. tt)
     (λ c κs. tt)
-    (λ c. rw (c .written .ensures, c .before .word-x .ensures, c .before .before .two-defined .ensures, c .before .before .before .is-to .ensures)))
+    (λ c. rw (c .written .ensures, c .before .word-x .ensures, c .before .before .trap-form .ensures, c .before .before .before .mark-form .ensures)))

@@ -25,6 +25,7 @@ read-31-spec =
     (λ c κs. search needs)
     (λ c κs. search needs)
     (λ c κs. search needs)
+    (λ c κs. search needs)
     (λ c. hit (arithmetic (fieldsOf (c .before .before .before .args .word) .x)) (c .before .before .before .args .word) (c .before .before .xo-opcode .ensures) (c .before .match .keys1) (c .arith .ensures))
     (λ c. hit (arithmetic (fieldsOf (c .before .before .before .args .word) .x)) (c .before .before .before .args .word) (c .before .before .xo-opcode .ensures) (c .before .match .keys2) (c .arith2 .ensures))
     (λ c. hit (arithmetic (fieldsOf (c .before .before .before .args .word) .x)) (c .before .before .before .args .word) (c .before .before .xo-opcode .ensures) (c .before .match .keys3) (c .arith3 .ensures))
@@ -36,4 +37,5 @@ read-31-spec =
     (λ c. hit (arithmetic (fieldsOf (c .before .before .before .args .word) .x)) (c .before .before .before .args .word) (c .before .before .xo-opcode .ensures) (c .before .match .keys9) (c .arith-one3 .ensures))
     (λ c. hit (arithmetic (fieldsOf (c .before .before .before .args .word) .x)) (c .before .before .before .args .word) (c .before .before .xo-opcode .ensures) (c .before .match .keys10) (c .arith-one4 .ensures))
     (λ c. hit (arithmetic (fieldsOf (c .before .before .before .args .word) .x)) (c .before .before .before .args .word) (c .before .before .xo-opcode .ensures) (c .before .match .keys11) (c .arith-one5 .ensures))
+    (λ c. hit (arithmetic (fieldsOf (c .before .before .before .args .word) .x)) (c .before .before .before .args .word) (c .before .before .xo-opcode .ensures) (c .before .match .keys12) (c .multiply-low .ensures))
     (λ c. miss arithmeticRows (λ (n : ℕ). logical (fieldsOf (c .before .before .before .args .word) .x)) (c .before .before .before .args .word) (c .before .before .xo-opcode .ensures) (c .before .match .rest) (c .read-logical .ensures)))

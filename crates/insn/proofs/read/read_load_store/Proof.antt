@@ -1,8 +1,6 @@
 -- `insn::read::read_load_store` meets its contract: each arm is its row, and the default has none of them. Assumes nothing.
-use mathlib.Core.Path.{refl}
-use Prim.Native.Nat.{ℕ}
 use borrow.Author.Needs.{needs}
-use Rattle.insn.specs.Read.{loadStore, loadStoreRows, nothing}
+use Rattle.insn.specs.Read.{loadStore, loadStoreRows, added}
 use Rattle.insn.proofs.Laws.{hit, miss}
 use Rattle.insn.proofs.read.read_load_store.Statement.{statement}
 use Rattle.insn.proofs.read.read_load_store.Tie as tie
@@ -12,6 +10,7 @@ unfolding loadStore loadStoreRows
 read-load-store-spec =
     tie.close
     (tie.spec
+    (λ c κs. search needs)
     (λ c κs. search needs)
     (λ c κs. search needs)
     (λ c κs. search needs)
@@ -45,4 +44,4 @@ read-load-store-spec =
     (λ c. hit loadStore (c .before .before .before .args .word) (c .before .before .opcode .ensures) (c .before .match .keys14) (c .load-double2 .ensures))
     (λ c. hit loadStore (c .before .before .before .args .word) (c .before .before .opcode .ensures) (c .before .match .keys15) (c .store-double .ensures))
     (λ c. hit loadStore (c .before .before .before .args .word) (c .before .before .opcode .ensures) (c .before .match .keys16) (c .store-double2 .ensures))
-    (λ c. miss loadStoreRows (λ (n : ℕ). nothing) (c .before .before .args .word) (c .before .opcode .ensures) (c .match .rest) refl))
+    (λ c. miss loadStoreRows added (c .before .before .before .args .word) (c .before .before .opcode .ensures) (c .before .match .rest) (c .read-added .ensures)))

@@ -26,6 +26,18 @@ enum-known-a-4 c = search needs
 multiply-requires : tie.Need-multiply-requires
 multiply-requires c κs = search needs
 
+enum-known-a-5 : tie.Need-enum-known-a-5
+enum-known-a-5 c = search needs
+
+multiply-imm-requires : tie.Need-multiply-imm-requires
+multiply-imm-requires c κs = search needs
+
+enum-known-a-6 : tie.Need-enum-known-a-6
+enum-known-a-6 c = search needs
+
+multiply-low-requires : tie.Need-multiply-low-requires
+multiply-low-requires c κs = search needs
+
 returns : tie.Need-returns
 returns c = rw (c .before .before .a .given .1, c .arith-imm .ensures)
 
@@ -37,6 +49,12 @@ returns-3 c = rw (c .before .before .a3 .given .1, c .arith-one .ensures)
 
 returns-4 : tie.Need-returns-4
 returns-4 c = rw (c .before .before .a4 .given .1, c .multiply .ensures)
+
+returns-5 : tie.Need-returns-5
+returns-5 c = rw (c .before .before .a5 .given .1, c .multiply-imm .ensures)
+
+returns-6 : tie.Need-returns-6
+returns-6 c = rw (c .before .before .a6 .given .1, c .multiply-low .ensures)
 
 pub arithmetic-spec : {M : Type 1} → statement M
 arithmetic-spec =
@@ -50,7 +68,13 @@ arithmetic-spec =
     arith-one-requires
     enum-known-a-4
     multiply-requires
+    enum-known-a-5
+    multiply-imm-requires
+    enum-known-a-6
+    multiply-low-requires
     returns
     returns-2
     returns-3
-    returns-4)
+    returns-4
+    returns-5
+    returns-6)

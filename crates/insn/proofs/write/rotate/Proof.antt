@@ -26,6 +26,12 @@ enum-known-r-4 c = search needs
 srawi-requires : tie.Need-srawi-requires
 srawi-requires c κs = search needs
 
+enum-known-r-5 : tie.Need-enum-known-r-5
+enum-known-r-5 c = search needs
+
+rotate-double-requires : tie.Need-rotate-double-requires
+rotate-double-requires c κs = search needs
+
 returns : tie.Need-returns
 returns c = rw (c .before .before .r .given .1, c .rotate-imm .ensures)
 
@@ -37,6 +43,9 @@ returns-3 c = rw (c .before .before .r3 .given .1, c .shift .ensures)
 
 returns-4 : tie.Need-returns-4
 returns-4 c = rw (c .before .before .r4 .given .1, c .srawi .ensures)
+
+returns-5 : tie.Need-returns-5
+returns-5 c = rw (c .before .before .r5 .given .1, c .rotate-double .ensures)
 
 pub rotate-spec : {M : Type 1} → statement M
 rotate-spec =
@@ -50,7 +59,10 @@ rotate-spec =
     shift-requires
     enum-known-r-4
     srawi-requires
+    enum-known-r-5
+    rotate-double-requires
     returns
     returns-2
     returns-3
-    returns-4)
+    returns-4
+    returns-5)

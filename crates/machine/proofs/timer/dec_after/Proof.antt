@@ -12,5 +12,4 @@ dec-after-spec =
     (λ c κs. search needs)
     (λ c κs. search needs)
     (λ c κs. search needs)
-    (λ c κs. search needs)
-    (λ c. rw (c .select .ensures, c .before .plus .ensures, c .before .before .bit-at2 .ensures, c .before .before .before .bit-at .ensures)))
+    (λ c. rw (c .select .ensures, c .before .plus .ensures, c .before .before .counts-in .ensures)))

@@ -11,4 +11,5 @@ quiet-spec =
     (λ c κs. search needs)
     (λ c κs. search needs)
     (λ c κs. search needs)
-    (λ c. rw (c .bit-at4 .ensures, c .before .bit-at3 .ensures, c .before .before .bit-at2 .ensures, c .before .before .before .bit-at .ensures)))
+    (λ c κs. search needs)
+    (λ c. rw (c .bit-at5 .ensures, c .before .bit-at4 .ensures, c .before .before .bit-at3 .ensures, c .before .before .before .bit-at2 .ensures, c .before .before .before .before .bit-at .ensures)))

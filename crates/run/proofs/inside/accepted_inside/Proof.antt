@@ -10,20 +10,21 @@ use Rattle.run.proofs.inside.accepted_inside.Statement.{statement}
 use Rattle.run.proofs.inside.accepted_inside.Tie as tie
 
 abbrev Inv-loop : tie.InvT-loop
-Inv-loop mem₀ events budget s₀ i₀ mem s i =
-    (i ≤ budget) × ((length mem ≡ length mem₀) × ((runOf (insideOf budget 0 events s₀ mem₀) 0 events s₀ mem₀ ≡ restOf budget i events s mem) × (pastOf budget 0 events s₀ mem₀ ≡ restPast budget i events s mem)))
+Inv-loop profile mem₀ events budget s₀ i₀ mem s i =
+    (i ≤ budget) × ((length mem ≡ length mem₀) × ((runOf profile (insideOf profile budget 0 events s₀ mem₀) 0 events s₀ mem₀ ≡ restOf profile budget i events s mem) × (pastOf profile budget 0 events s₀ mem₀ ≡ restPast profile budget i events s mem)))
 
 abbrev μ-loop : tie.MeasureT-loop
-μ-loop mem₀ events budget s₀ i₀ mem s i = budget - i
+μ-loop profile mem₀ events budget s₀ i₀ mem s i = budget - i
 
 loop-holds : tie.Need-loop-holds Inv-loop μ-loop
 loop-holds c =
     let start = c .before .before in
-    (search needs, (refl, rest-start (start .args .events .now) (start .args .start) (start .args .mem .now) (start .args .budget) (start .pre)))
+    (search needs, (refl, rest-start (start .args .profile) (start .args .events .now) (start .args .start) (start .args .mem .now) (start .args .budget) (start .pre)))
 
 loop-again : tie.Need-loop-again Inv-loop μ-loop
 loop-again c =
     let at = c .before .before .before .before .before .before .before .before in
+    let p = at .before .before .before .args .profile in
     let ev = at .before .before .before .args .events .now in
     let budget = at .before .before .before .args .budget in
     let halt = c .before .before .before .before .before .if1 .left in (
@@ -32,10 +33,10 @@ loop-again c =
         search needs,
         (
           at .loop .inv .1 .1 .0
-              ∙ (rest-more ev (at .loop .s) (at .loop .mem) budget (at .loop .i) (search needs) halt
+              ∙ (rest-more p ev (at .loop .s) (at .loop .mem) budget (at .loop .i) (search needs) halt
               ∙ rw (← (c .before .before .before .event-at .ensures), ← (c .before .before .step-marked .ensures .0), ← (c .before .before .step-marked .ensures .1))),
           at .loop .inv .1 .1 .1
-              ∙ (rest-past-more ev (at .loop .s) (at .loop .mem) budget (at .loop .i) (search needs) halt
+              ∙ (rest-past-more p ev (at .loop .s) (at .loop .mem) budget (at .loop .i) (search needs) halt
               ∙ rw (← (c .before .before .before .event-at .ensures), ← (c .before .before .step-marked .ensures .0), ← (c .before .before .step-marked .ensures .1))),
         ),
       ),
@@ -49,11 +50,12 @@ returns c =
 returns-2 : tie.Need-returns-2 Inv-loop μ-loop
 returns-2 c =
     let at = c .before .before .before in
+    let p = at .before .before .before .args .profile in
     let ev = at .before .before .before .args .events .now in
     let budget = at .before .before .before .args .budget in
     let over =
-    ⊎-elim (λ w. over-spent ev (at .loop .s) (at .loop .mem) budget (at .loop .i) (w .taken))
-    (λ w. over-halted ev (at .loop .s) (at .loop .mem) budget (at .loop .i) (w .2 .taken)) (c .before .before .loop-test .came) in
+    ⊎-elim (λ w. over-spent p ev (at .loop .s) (at .loop .mem) budget (at .loop .i) (w .taken))
+    (λ w. over-halted p ev (at .loop .s) (at .loop .mem) budget (at .loop .i) (w .2 .taken)) (c .before .before .loop-test .came) in
     rw (at .loop .inv .1 .1 .0, at .loop .inv .1 .1 .1, c .if2 .left, over .0, over .1) (refl, refl)
 
 pub accepted-inside-spec : {M : Type 1} → statement M

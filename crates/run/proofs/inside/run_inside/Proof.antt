@@ -13,7 +13,7 @@ run-inside-spec =
     (tie.spec
     (λ c κs. search needs)
     (λ c κs. search needs)
-    (λ c κs. let start = c .before .before .before .before .before .before .before in run-halt (start .args .state) (start .args .mem .now) (start .args .events .now) (start .args .budget) (rw (← (c .before .before .before .run-refusal .ensures), ← (c .before .before .accepts .ensures)) (c .before .if1 .taken)))
+    (λ c κs. let start = c .before .before .before .before .before .before .before in run-halt (start .args .profile) (start .args .state) (start .args .mem .now) (start .args .events .now) (start .args .budget) (rw (← (c .before .before .before .run-refusal .ensures), ← (c .before .before .accepts .ensures)) (c .before .if1 .taken)))
     (λ c κs. search needs)
     (λ c. search needs)
     (λ c. rw (← (c .before .before .before .before .before .before .run-refusal .ensures), ← (c .before .before .before .before .before .accepts .ensures), c .before .before .before .before .if1 .taken) (c .before .before .accepted-inside .ensures .0, c .before .before .accepted-inside .ensures .1))

@@ -43,6 +43,7 @@ use denote.Triple.Clauses.{ensured, lasts}
 use denote.Triple.Table.{entered, cited}
 use denote.Triple.Walked.{says, Stays, stay-ref, gave-slice, stay-none, walkOf, goes-ref, goes-gave-slice, goes-none, Walks, ends-at, walked, walk-meets}
 use denote.Exit.{yes}
+use Rattle.insn.specs.declared.profile.Profile.{Profile}
 use Rattle.machine.specs.Refusal.{acceptsOf}
 use Rattle.machine.specs.declared.state.State.{State}
 use Rattle.machine.proofs.state.State as T
@@ -56,10 +57,10 @@ use Rattle.run.proofs.outcome.Outcome as O
 use Rattle.run.proofs.outcome.Outcome.Laws as O′
 use Rattle.run.proofs.lent.Answer as N
 use Rattle.run.proofs.lent.Answer.Laws as N′
-use Rattle.run.proofs.run.step as step
-use Rattle.run.proofs.run.step.Symbol as step-def
-use Rattle.run.proofs.run.step.Symbol.{name as #run·step}
-use Rattle.run.proofs.run.step.Met as step-thm
+use Rattle.run.proofs.lent.step_42 as step
+use Rattle.run.proofs.lent.step_42.Symbol as step-def
+use Rattle.run.proofs.lent.step_42.Symbol.{name as #run·step}
+use Rattle.run.proofs.lent.step_42.Met as step-thm
 use Rattle.run.proofs.lent.answer_of as answer
 use Rattle.run.proofs.lent.answer_of.Symbol as answer-def
 use Rattle.run.proofs.lent.answer_of.Symbol.{name as #run·answer-of}
@@ -145,10 +146,10 @@ module _ {M : Type 1} (𝓤 : URA M) (H : Heap 𝓤) (A : Atoms 𝓤) (W : Given
   to r w = ((tt, tt, tt, (r, tt), (w ∷ [], tt)), tt)
 
   abbrev Says : Outcome → List ℕ → Type 0
-  Says r zs = (r ≡ stepOutcome h ys e) × (zs ≡ stepMemory h ys e)
+  Says r zs = (r ≡ stepOutcome Profile.Ppe42 h ys e) × (zs ≡ stepMemory Profile.Ppe42 h ys e)
 
   abbrev Done : Answer → State → List ℕ → Type 0
-  Done n t zs = (n ≡ answerOf (stepOutcome h ys e)) × ((t ≡ stepOutcome h ys e .state) × (zs ≡ stepMemory h ys e))
+  Done n t zs = (n ≡ answerOf (stepOutcome Profile.Ppe42 h ys e)) × ((t ≡ stepOutcome Profile.Ppe42 h ys e .state) × (zs ≡ stepMemory Profile.Ppe42 h ys e))
 
   goes : ent 𝓤 (⋆ 𝓤 H A ((‵ (flft κ′ q′) ⊛ ‵ ftrue) ∷ ‵ (T.the-row .own h (mach ∷ [])) ∷ ‵ (owns (MutSlice (named 1) κ′ u8 ∷ u8 ∷ []) (x, (e, tt)) (s ∷ [], (vint w8 e ∷ [], tt))) ∷ [])) (Step 𝓤 H A at-mem run .pre to-step)
   goes =
@@ -237,7 +238,7 @@ module _ {M : Type 1} (𝓤 : URA M) (H : Heap 𝓤) (A : Atoms 𝓤) (W : Given
         (λ no.
         skips ! $ exec ! C Λ _ body.t-8 (atRet _ Post) $
         move ! (6 ∷ 7 ∷ 8 ∷ 9 ∷ 10 ∷ []) $ closes ! tt T.the-row h (mach ∷ []) b o $ move ! (3 ∷ []) $ drop ! $
-        leaves n v isn h (zs .1 .0) (en ∙ ap answerOf (p .0), (refused-state h ys e (holds-of (ey ∙ ap (λ (z : Outcome). acceptsOf (z .refusal)) (p .0)) no), p .1)) l))))))))))))))))))))))))))))
+        leaves n v isn h (zs .1 .0) (en ∙ ap answerOf (p .0), (refused-state Profile.Ppe42 h ys e (holds-of (ey ∙ ap (λ (z : Outcome). acceptsOf (z .refusal)) (p .0)) no), p .1)) l))))))))))))))))))))))))))))
 
 module _ {M : Type 1} (𝓤 : URA M) (H : Heap 𝓤) (A : Atoms 𝓤) (W : Given 𝓤 H A) (mem : Memory → SProp 𝓤) (run : Routine → Fun 𝓤) where
   -- what the walk has of its callees
@@ -262,7 +263,7 @@ step-lent-spec 𝓤 H 𝓜 𝓖 𝓡 =
     entered 𝓤 H (tripleOf 𝓤 H (𝓖 .A) f.signature (f.spec 𝓤 H (𝓖 .A) (𝓜 .mem) (𝓡 .run)))
     (tables 𝓤 H 𝓜 𝓡 code.env .C) (tables 𝓤 H 𝓜 𝓡 code.env .Λ) #run·step-lent code.function (code.unfolded 𝓤 H 𝓜 𝓡)
     (step-lent-meets 𝓤 H (𝓖 .A) (givenOf 𝓤 H 𝓜 𝓖) (𝓜 .mem) (𝓡 .run) (tablesOf 𝓤 H 𝓜 (tables 𝓤 H 𝓜 𝓡 code.env)) (
-      cited 𝓤 H (Step 𝓤 H (𝓖 .A) (𝓜 .mem) (𝓡 .run)) 𝓜 𝓡 code.env #run·step step-def.routine code.calls-run·run·step (step-thm.met 𝓤 H 𝓜 𝓖 𝓡),
+      cited 𝓤 H (Step 𝓤 H (𝓖 .A) (𝓜 .mem) (𝓡 .run)) 𝓜 𝓡 code.env #run·step step-def.routine code.calls-run·lent·step-42 (step-thm.met 𝓤 H 𝓜 𝓖 𝓡),
       (
         cited 𝓤 H (AnswerOf 𝓤 H (𝓖 .A) (𝓜 .mem) (𝓡 .run)) 𝓜 𝓡 code.env #run·answer-of answer-def.routine code.calls-run·lent·answer-of (answer-thm.met 𝓤 H 𝓜 𝓖 𝓡),
         (

@@ -12,31 +12,32 @@ use Rattle.run.proofs.reach.accepted_reach.Statement.{statement}
 use Rattle.run.proofs.reach.accepted_reach.Tie as tie
 
 abbrev Inv-loop : tie.InvT-loop
-Inv-loop mem₀ events budget s₀ i₀ past₀ mem s i past =
-    (i ≤ budget) × ((length mem ≡ length mem₀) × ((runOf budget 0 events s₀ mem₀ ≡ runOf (budget - i) i events s mem) × (pastOf budget 0 events s₀ mem₀ ≡ (past || pastOf (budget - i) i events s mem))))
+Inv-loop profile mem₀ events budget s₀ i₀ past₀ mem s i past =
+    (i ≤ budget) × ((length mem ≡ length mem₀) × ((runOf profile budget 0 events s₀ mem₀ ≡ runOf profile (budget - i) i events s mem) × (pastOf profile budget 0 events s₀ mem₀ ≡ (past || pastOf profile (budget - i) i events s mem))))
 
 abbrev μ-loop : tie.MeasureT-loop
-μ-loop mem₀ events budget s₀ i₀ past₀ mem s i past = budget - i
+μ-loop profile mem₀ events budget s₀ i₀ past₀ mem s i past = budget - i
 
 loop-again : tie.Need-loop-again Inv-loop μ-loop
 loop-again c =
     let at = c .before .before .before .before .before .before .before .before .before .before .before in
+    let p = at .before .before .before .args .profile in
     let ev = at .before .before .before .args .events .now in
     let budget = at .before .before .before .args .budget in
     let halt = c .before .before .before .before .before .before .before .before .if2 .left in
     let less = c .before .before .before .before .before .before .before .before .before .before .if1 .left in
     let event = c .before .before .before .before .before .before .event-at .ensures in
     let step = c .before .before .before .before .before .step-marked .ensures in
-    let mark = told (at .loop .s) (at .loop .mem) (getD ev (at .loop .i) 0) halt (rw (← event, ← (step .0)) (c .before .if3 .taken)) in (
+    let mark = told p (at .loop .s) (at .loop .mem) (getD ev (at .loop .i) 0) halt (rw (← event, ← (step .0)) (c .before .if3 .taken)) in (
       search (needs, less),
       (
         search needs,
         (
           at .loop .inv .1 .1 .0
-              ∙ (run-more ev (at .loop .s) (at .loop .mem) budget (at .loop .i) less halt
+              ∙ (run-more p ev (at .loop .s) (at .loop .mem) budget (at .loop .i) less halt
               ∙ rw (c .unmark .ensures, step .0, step .1, event, mark .1)),
           at .loop .inv .1 .1 .1
-              ∙ (past-more ev (at .loop .s) (at .loop .mem) budget (at .loop .i) (at .loop .past) less halt
+              ∙ (past-more p ev (at .loop .s) (at .loop .mem) budget (at .loop .i) (at .loop .past) less halt
               ∙ rw (mark .0, or-told (at .loop .past))),
         ),
       ),
@@ -45,21 +46,22 @@ loop-again c =
 loop-again-2 : tie.Need-loop-again-2 Inv-loop μ-loop
 loop-again-2 c =
     let at = c .before .before .before .before .before .before .before .before .before .before in
+    let p = at .before .before .before .args .profile in
     let ev = at .before .before .before .args .events .now in
     let budget = at .before .before .before .args .budget in
     let halt = c .before .before .before .before .before .before .before .if2 .left in
     let event = c .before .before .before .before .before .event-at .ensures in
     let step = c .before .before .before .before .step-marked .ensures in
-    let mark = untold (at .loop .s) (at .loop .mem) (getD ev (at .loop .i) 0) halt (rw (← event, ← (step .0)) (c .if3 .left)) in (
+    let mark = untold p (at .loop .s) (at .loop .mem) (getD ev (at .loop .i) 0) halt (rw (← event, ← (step .0)) (c .if3 .left)) in (
       search needs,
       (
         search needs,
         (
           at .loop .inv .1 .1 .0
-              ∙ (run-more ev (at .loop .s) (at .loop .mem) budget (at .loop .i) (search needs) halt
+              ∙ (run-more p ev (at .loop .s) (at .loop .mem) budget (at .loop .i) (search needs) halt
               ∙ rw (step .0, step .1, event, mark .1)),
           at .loop .inv .1 .1 .1
-              ∙ (past-more ev (at .loop .s) (at .loop .mem) budget (at .loop .i) (at .loop .past) (search needs) halt
+              ∙ (past-more p ev (at .loop .s) (at .loop .mem) budget (at .loop .i) (at .loop .past) (search needs) halt
               ∙ rw (step .0, step .1, event, mark .1, mark .0, or-nothing (at .loop .past))),
         ),
       ),
@@ -68,16 +70,18 @@ loop-again-2 c =
 returns : tie.Need-returns Inv-loop μ-loop
 returns c =
     let at = c .before in
+    let p = at .before .before .before .args .profile in
     let ev = at .before .before .before .args .events .now in
     let budget = at .before .before .before .args .budget in
-    rw (at .loop .inv .1 .1 .0, at .loop .inv .1 .1 .1, run-spent ev (at .loop .s) (at .loop .mem) budget (at .loop .i) (c .if1 .taken), past-spent ev (at .loop .s) (at .loop .mem) budget (at .loop .i) (c .if1 .taken), or-nothing (at .loop .past))
+    rw (at .loop .inv .1 .1 .0, at .loop .inv .1 .1 .1, run-spent p ev (at .loop .s) (at .loop .mem) budget (at .loop .i) (c .if1 .taken), past-spent p ev (at .loop .s) (at .loop .mem) budget (at .loop .i) (c .if1 .taken), or-nothing (at .loop .past))
     (refl, refl)
 
 returns-2 : tie.Need-returns-2 Inv-loop μ-loop
 returns-2 c =
     let at = c .before .before .before in
+    let p = at .before .before .before .args .profile in
     let ev = at .before .before .before .args .events .now in
-    rw (at .loop .inv .1 .1 .0, at .loop .inv .1 .1 .1, run-halted ev (at .loop .s) (at .loop .mem) _ _ (c .if2 .taken), past-halted ev (at .loop .s) (at .loop .mem) _ _ (c .if2 .taken), or-nothing (at .loop .past))
+    rw (at .loop .inv .1 .1 .0, at .loop .inv .1 .1 .1, run-halted p ev (at .loop .s) (at .loop .mem) _ _ (c .if2 .taken), past-halted p ev (at .loop .s) (at .loop .mem) _ _ (c .if2 .taken), or-nothing (at .loop .past))
     (refl, refl)
 
 pub accepted-reach-spec : {M : Type 1} → statement M

@@ -10,11 +10,11 @@ use Rattle.run.proofs.run.accepted_run.Statement.{statement}
 use Rattle.run.proofs.run.accepted_run.Tie as tie
 
 abbrev Inv-loop : tie.InvT-loop
-Inv-loop mem₀ events budget s₀ i₀ mem s i =
-    (i ≤ budget) × ((length mem ≡ length mem₀) × (runOf budget 0 events s₀ mem₀ ≡ runOf (budget - i) i events s mem))
+Inv-loop profile mem₀ events budget s₀ i₀ mem s i =
+    (i ≤ budget) × ((length mem ≡ length mem₀) × (runOf profile budget 0 events s₀ mem₀ ≡ runOf profile (budget - i) i events s mem))
 
 abbrev μ-loop : tie.MeasureT-loop
-μ-loop mem₀ events budget s₀ i₀ mem s i = budget - i
+μ-loop profile mem₀ events budget s₀ i₀ mem s i = budget - i
 
 loop-again : tie.Need-loop-again Inv-loop μ-loop
 loop-again c =
@@ -23,7 +23,7 @@ loop-again c =
       (
         search needs,
         at .loop .inv .1 .1
-            ∙ (run-more (at .before .before .before .args .events .now) (at .loop .s) (at .loop .mem) (at .before .before .before .args .budget) (at .loop .i) (search needs) (c .before .before .before .before .before .if2 .left)
+            ∙ (run-more (at .before .before .before .args .profile) (at .before .before .before .args .events .now) (at .loop .s) (at .loop .mem) (at .before .before .before .args .budget) (at .loop .i) (search needs) (c .before .before .before .before .before .if2 .left)
             ∙ rw (← (c .before .before .before .event-at .ensures), ← (c .before .before .step .ensures .0), ← (c .before .before .step .ensures .1))),
       ),
     )
@@ -31,13 +31,13 @@ loop-again c =
 returns : tie.Need-returns Inv-loop μ-loop
 returns c =
     let at = c .before in
-    rw (at .loop .inv .1 .1, run-spent (at .before .before .before .args .events .now) (at .loop .s) (at .loop .mem) (at .before .before .before .args .budget) (at .loop .i) (c .if1 .taken))
+    rw (at .loop .inv .1 .1, run-spent (at .before .before .before .args .profile) (at .before .before .before .args .events .now) (at .loop .s) (at .loop .mem) (at .before .before .before .args .budget) (at .loop .i) (c .if1 .taken))
     (refl, refl)
 
 returns-2 : tie.Need-returns-2 Inv-loop μ-loop
 returns-2 c =
     let at = c .before .before .before in
-    rw (at .loop .inv .1 .1, run-halted (at .before .before .before .args .events .now) (at .loop .s) (at .loop .mem) _ _ (c .if2 .taken))
+    rw (at .loop .inv .1 .1, run-halted (at .before .before .before .args .profile) (at .before .before .before .args .events .now) (at .loop .s) (at .loop .mem) _ _ (c .if2 .taken))
     (refl, refl)
 
 pub accepted-run-spec : {M : Type 1} → statement M

@@ -22,6 +22,9 @@ unsigned-code-requires-4 c κs = search needs
 unsigned-code-requires-5 : tie.Need-unsigned-code-requires-5
 unsigned-code-requires-5 c κs = search needs
 
+unsigned-code-requires-6 : tie.Need-unsigned-code-requires-6
+unsigned-code-requires-6 c κs = search needs
+
 target-code-requires : tie.Need-target-code-requires
 target-code-requires c κs = search needs
 
@@ -54,11 +57,15 @@ returns-6 c = simp (ne-eqb _ _ (c .before .before .before .before .before .befor
 
 returns-7 : tie.Need-returns-7
 unfolding rangeOf
-returns-7 c = simp (ne-eqb _ _ (c .before .before .before .before .before .before .before .if1 .left), ne-eqb _ _ (c .before .before .before .before .before .before .if2 .left), ne-eqb _ _ (c .before .before .before .before .before .if3 .left), ne-eqb _ _ (c .before .before .before .before .if4 .left), ne-eqb _ _ (c .before .before .before .if5 .left), ne-eqb _ _ (c .before .before .if6 .left), eq-eqb _ _ (c .before .if7 .taken)) (c .target-code .ensures)
+returns-7 c = simp (ne-eqb _ _ (c .before .before .before .before .before .before .before .if1 .left), ne-eqb _ _ (c .before .before .before .before .before .before .if2 .left), ne-eqb _ _ (c .before .before .before .before .before .if3 .left), ne-eqb _ _ (c .before .before .before .before .if4 .left), ne-eqb _ _ (c .before .before .before .if5 .left), ne-eqb _ _ (c .before .before .if6 .left), eq-eqb _ _ (c .before .if7 .taken)) (c .unsigned-code6 .ensures)
 
 returns-8 : tie.Need-returns-8
 unfolding rangeOf
-returns-8 c = simp (ne-eqb _ _ (c .before .before .before .before .before .before .before .if1 .left), ne-eqb _ _ (c .before .before .before .before .before .before .if2 .left), ne-eqb _ _ (c .before .before .before .before .before .if3 .left), ne-eqb _ _ (c .before .before .before .before .if4 .left), ne-eqb _ _ (c .before .before .before .if5 .left), ne-eqb _ _ (c .before .before .if6 .left), ne-eqb _ _ (c .before .if7 .left)) (c .target-code2 .ensures)
+returns-8 c = simp (ne-eqb _ _ (c .before .before .before .before .before .before .before .before .if1 .left), ne-eqb _ _ (c .before .before .before .before .before .before .before .if2 .left), ne-eqb _ _ (c .before .before .before .before .before .before .if3 .left), ne-eqb _ _ (c .before .before .before .before .before .if4 .left), ne-eqb _ _ (c .before .before .before .before .if5 .left), ne-eqb _ _ (c .before .before .before .if6 .left), ne-eqb _ _ (c .before .before .if7 .left), eq-eqb _ _ (c .before .if8 .taken)) (c .target-code .ensures)
+
+returns-9 : tie.Need-returns-9
+unfolding rangeOf
+returns-9 c = simp (ne-eqb _ _ (c .before .before .before .before .before .before .before .before .if1 .left), ne-eqb _ _ (c .before .before .before .before .before .before .before .if2 .left), ne-eqb _ _ (c .before .before .before .before .before .before .if3 .left), ne-eqb _ _ (c .before .before .before .before .before .if4 .left), ne-eqb _ _ (c .before .before .before .before .if5 .left), ne-eqb _ _ (c .before .before .before .if6 .left), ne-eqb _ _ (c .before .before .if7 .left), ne-eqb _ _ (c .before .if8 .left)) (c .target-code2 .ensures)
 
 pub number-code-spec : {M : Type 1} → statement M
 number-code-spec =
@@ -70,6 +77,7 @@ number-code-spec =
     unsigned-code-requires-3
     unsigned-code-requires-4
     unsigned-code-requires-5
+    unsigned-code-requires-6
     target-code-requires
     target-code-requires-2
     returns
@@ -79,4 +87,5 @@ number-code-spec =
     returns-5
     returns-6
     returns-7
-    returns-8)
+    returns-8
+    returns-9)
