@@ -57,7 +57,7 @@ enum ppe42_place {
     PPE42_CR, /* F0000000 */
     PPE42_CTR,
     PPE42_DACR,
-    PPE42_DBCR, /* 318C0000 */
+    PPE42_DBCR, /* 318C0000; of a 42X 318C00C7 */
     PPE42_DEC,
     PPE42_EDR,
     PPE42_ISR,  /* 0000F4CF */
@@ -69,7 +69,7 @@ enum ppe42_place {
     PPE42_SPRG0,
     PPE42_SRR0, /* FFFFFFFC */
     PPE42_SRR1, /* 7FFF9DFF */
-    PPE42_TCR,  /* FFC00000 */
+    PPE42_TCR,  /* FFC00000; of a 42X FFE00000 */
     PPE42_TSR,  /* FC000000 */
     PPE42_XER,  /* E0000000 */
     PPE42_IAR,  /* a multiple of 4, or refusal 2 */
@@ -214,6 +214,32 @@ static inline uint32_t ppe42_line_word(uint64_t answer) { return (uint32_t)answe
  * that lines do not write (BH, TG, a cache hint) is set, so that the line is that of the word with the field 0. Every other
  * line assembles to the word. 0: the word is illegal. An out_len under 64 is refused first, with 8 times 2^48. */
 uint64_t ppe42_disassemble(uint32_t word, uint8_t *out, size_t out_len);
+
+/* The 42X. Each of these is the function above whose name it has, of a 42X: arguments, answers and refusals are the same. A 42X has
+ * mulli, mullw, rldicl, rldicr, rldimi, lsku and stsku besides, takes tw with TG as no trap, defines more bits of DBCR and TCR,
+ * and has its machine check at 020 (docs/CORE.md). Captures have one form; which core they are of is for the caller to know.
+ * S-records are the same for both. */
+uint64_t ppe42x_run(uint8_t *state, size_t state_len, uint8_t *memory, size_t memory_len, const uint8_t *events,
+                    size_t events_len, uint32_t budget);
+uint64_t ppe42x_run_reach(uint8_t *state, size_t state_len, uint8_t *memory, size_t memory_len, const uint8_t *events,
+                          size_t events_len, uint32_t budget);
+uint64_t ppe42x_run_inside(uint8_t *state, size_t state_len, uint8_t *memory, size_t memory_len, const uint8_t *events,
+                           size_t events_len, uint32_t budget);
+uint64_t ppe42x_step(uint8_t *state, size_t state_len, uint8_t *memory, size_t memory_len, uint8_t event);
+uint64_t ppe42x_tell(const uint8_t *state, size_t state_len, const uint8_t *memory, size_t memory_len, uint8_t event);
+
+/* Of lsku and stsku, which access several places, the whole frame is told: its first address, and its length in bytes, 16 at
+ * least, a multiple of 8 and 8 more than the displacement. Of lsku the first address is (RA), of stsku the EA that RA gets. They
+ * touch no byte outside it; addresses go on from FFFFFFFF at 0. */
+uint64_t ppe42x_access(const uint8_t *state, size_t state_len, const uint8_t *memory, size_t memory_len, uint8_t event);
+
+uint64_t ppe42x_capture_check(const uint8_t *file, size_t len);
+uint64_t ppe42x_capture_write(const uint8_t *state, size_t state_len, const uint8_t *memory, size_t memory_len,
+                              uint8_t *out, size_t out_len);
+uint32_t ppe42x_legal(uint32_t word);
+uint64_t ppe42x_rewrite(uint32_t word);
+uint64_t ppe42x_assemble(const uint8_t *line, size_t len);
+uint64_t ppe42x_disassemble(uint32_t word, uint8_t *out, size_t out_len);
 
 #ifdef __cplusplus
 }

@@ -30,6 +30,21 @@ pub extern "C" fn ppe42_capture_write(state: &[u8], memory: &[u8], out: &mut [u8
     crate::captures::write(Profile::Ppe42, state, memory, out)
 }
 
+// The same of a 42X.
+#[no_mangle]
+pub extern "C" fn ppe42x_capture_check(file: &[u8]) -> u64
+    ensures { λ r. ⌜ r ≡ checkAnswer Profile.Ppe42x (now (file .entry)) ⌝ }
+{
+    crate::captures::check(Profile::Ppe42x, file)
+}
+
+#[no_mangle]
+pub extern "C" fn ppe42x_capture_write(state: &[u8], memory: &[u8], out: &mut [u8]) -> u64
+    ensures { λ r. ⌜ (r ≡ writeAnswer Profile.Ppe42x (now (state .entry)) (now (memory .entry)) (now (out .entry))) × (now (out .exit) ≡ writeOut Profile.Ppe42x (now (state .entry)) (now (memory .entry)) (now (out .entry))) ⌝ }
+{
+    crate::captures::write(Profile::Ppe42x, state, memory, out)
+}
+
 // A file of S-records read into memory: the refusal, and the line that it is given for.
 #[no_mangle]
 pub extern "C" fn ppe42_srec_read(memory: &mut [u8], file: &[u8]) -> u64

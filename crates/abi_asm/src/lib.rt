@@ -41,3 +41,32 @@ pub extern "C" fn ppe42_disassemble(word: u32, out: &mut [u8]) -> u64
 {
     crate::lines::disassemble(Profile::Ppe42, word, out)
 }
+
+// The same of a 42X.
+#[no_mangle]
+pub extern "C" fn ppe42x_legal(word: u32) -> u32
+    ensures { λ r. ⌜ r ≡ legalOf (decodeOn Profile.Ppe42x word) ⌝ }
+{
+    crate::words::legal(Profile::Ppe42x, word)
+}
+
+#[no_mangle]
+pub extern "C" fn ppe42x_rewrite(word: u32) -> u64
+    ensures { λ r. ⌜ r ≡ rewriteOf Profile.Ppe42x (decodeOn Profile.Ppe42x word) ⌝ }
+{
+    crate::words::rewrite(Profile::Ppe42x, word)
+}
+
+#[no_mangle]
+pub extern "C" fn ppe42x_assemble(line: &[u8]) -> u64
+    ensures { λ r. ⌜ Assembles Profile.Ppe42x (now (line .entry)) r ⌝ }
+{
+    crate::lines::assemble(Profile::Ppe42x, line)
+}
+
+#[no_mangle]
+pub extern "C" fn ppe42x_disassemble(word: u32, out: &mut [u8]) -> u64
+    ensures { λ r. ⌜ (r ≡ listedAnswer (listedOf (decodeOn Profile.Ppe42x word) (now (out .entry)))) × (now (out .exit) ≡ listedOut (decodeOn Profile.Ppe42x word) (now (out .entry))) ⌝ }
+{
+    crate::lines::disassemble(Profile::Ppe42x, word, out)
+}

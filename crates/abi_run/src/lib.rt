@@ -47,3 +47,42 @@ pub extern "C" fn ppe42_step(state: &mut [u8], memory: &mut [u8], event: u8) -> 
 {
     crate::runs::step(Profile::Ppe42, state, memory, event)
 }
+
+// The same of a 42X.
+#[no_mangle]
+pub extern "C" fn ppe42x_run(state: &mut [u8], memory: &mut [u8], events: &[u8], budget: u32) -> u64
+    ensures { λ r. ⌜ (r ≡ runAnswer Profile.Ppe42x (now (state .entry)) (now (memory .entry)) (now (events .entry)) budget) × ((now (state .exit) ≡ runState Profile.Ppe42x (now (state .entry)) (now (memory .entry)) (now (events .entry)) budget) × (now (memory .exit) ≡ runLent Profile.Ppe42x (now (state .entry)) (now (memory .entry)) (now (events .entry)) budget)) ⌝ }
+{
+    crate::runs::run(Profile::Ppe42x, state, memory, events, budget)
+}
+
+#[no_mangle]
+pub extern "C" fn ppe42x_run_reach(
+    state: &mut [u8],
+    memory: &mut [u8],
+    events: &[u8],
+    budget: u32,
+) -> u64
+    ensures { λ r. ⌜ (r ≡ reachAnswer Profile.Ppe42x (now (state .entry)) (now (memory .entry)) (now (events .entry)) budget) × ((now (state .exit) ≡ runState Profile.Ppe42x (now (state .entry)) (now (memory .entry)) (now (events .entry)) budget) × (now (memory .exit) ≡ runLent Profile.Ppe42x (now (state .entry)) (now (memory .entry)) (now (events .entry)) budget)) ⌝ }
+{
+    crate::runs::run_reach(Profile::Ppe42x, state, memory, events, budget)
+}
+
+#[no_mangle]
+pub extern "C" fn ppe42x_run_inside(
+    state: &mut [u8],
+    memory: &mut [u8],
+    events: &[u8],
+    budget: u32,
+) -> u64
+    ensures { λ r. ⌜ (r ≡ insideAnswer Profile.Ppe42x (now (state .entry)) (now (memory .entry)) (now (events .entry)) budget) × ((now (state .exit) ≡ insideState Profile.Ppe42x (now (state .entry)) (now (memory .entry)) (now (events .entry)) budget) × (now (memory .exit) ≡ insideLent Profile.Ppe42x (now (state .entry)) (now (memory .entry)) (now (events .entry)) budget)) ⌝ }
+{
+    crate::runs::run_inside(Profile::Ppe42x, state, memory, events, budget)
+}
+
+#[no_mangle]
+pub extern "C" fn ppe42x_step(state: &mut [u8], memory: &mut [u8], event: u8) -> u64
+    ensures { λ r. ⌜ (r ≡ stepAnswer Profile.Ppe42x (now (state .entry)) (now (memory .entry)) event) × ((now (state .exit) ≡ stepState Profile.Ppe42x (now (state .entry)) (now (memory .entry)) event) × (now (memory .exit) ≡ stepLent Profile.Ppe42x (now (state .entry)) (now (memory .entry)) event)) ⌝ }
+{
+    crate::runs::step(Profile::Ppe42x, state, memory, event)
+}

@@ -21,3 +21,18 @@ pub extern "C" fn ppe42_access(state: &[u8], memory: &[u8], event: u8) -> u64
 {
     crate::told::access(Profile::Ppe42, state, memory, event)
 }
+
+// The same of a 42X.
+#[no_mangle]
+pub extern "C" fn ppe42x_tell(state: &[u8], memory: &[u8], event: u8) -> u64
+    ensures { λ r. ⌜ r ≡ tellAnswer Profile.Ppe42x (now (state .entry)) (now (memory .entry)) event ⌝ }
+{
+    crate::told::tell(Profile::Ppe42x, state, memory, event)
+}
+
+#[no_mangle]
+pub extern "C" fn ppe42x_access(state: &[u8], memory: &[u8], event: u8) -> u64
+    ensures { λ r. ⌜ r ≡ accessAnswer Profile.Ppe42x (now (state .entry)) (now (memory .entry)) event ⌝ }
+{
+    crate::told::access(Profile::Ppe42x, state, memory, event)
+}
