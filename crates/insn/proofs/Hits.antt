@@ -3,8 +3,8 @@ use mathlib.Core.Path.{_≡_, refl}
 use mathlib.Core.Bool.{Bool, true, false}
 use Prim.Native.Nat.{ℕ, _%_, _<_}
 use lib.Dec.{lit<}
-use Rattle.insn.specs.Codes.{arithImmCode, arithCode, arithOneCode, multiplyCode, logicImmCode, logicCode, logicOneCode, compareImmCode, compareCode, rotateCode, shiftCode, loadCode, storeCode, loadIndexedCode, storeIndexedCode, loadDoubleCode, storeDoubleCode, rotateDoubleCode, branchCode, sprCode, moveCode, cacheCode}
-use Rattle.insn.specs.Read.{arithImmAt, arithAt, arithOneAt, multiplyAt, multiplyImmAt, multiplyLowAt, logicImmAt, logicAt, logicOneAt, compareImmAt, compareAt, rotateImmAt, rotateAt, shiftAt, srawiAt, rotateDoubleAt, loadAt, loadIndexedAt, storeAt, storeIndexedAt, loadDoubleAt, storeDoubleAt, branchAt, branchIfAt, branchToAt, trapAt, moveSprAt, moveRegAt, wrteeiAt, rfiAt, syncAt, cacheAt, primary, primaryRows, loadStore, loadStoreRows, added, addedRows, opcode30, rows30, arithmetic, arithmeticRows, logical, logicalRows, storage, storageRows, system, systemRows, opcode19, rows19, opcode4, rows4}
+use Rattle.insn.specs.Codes.{arithImmCode, arithCode, arithOneCode, multiplyCode, logicImmCode, logicCode, logicOneCode, compareImmCode, compareCode, rotateCode, shiftCode, loadCode, storeCode, loadIndexedCode, storeIndexedCode, loadDoubleCode, storeDoubleCode, stackCode, rotateDoubleCode, branchCode, sprCode, moveCode, cacheCode}
+use Rattle.insn.specs.Read.{arithImmAt, arithAt, arithOneAt, multiplyAt, multiplyImmAt, multiplyLowAt, logicImmAt, logicAt, logicOneAt, compareImmAt, compareAt, rotateImmAt, rotateAt, shiftAt, srawiAt, rotateDoubleAt, loadAt, loadIndexedAt, storeAt, storeIndexedAt, loadDoubleAt, storeDoubleAt, stackAt, branchAt, branchIfAt, branchToAt, trapAt, moveSprAt, moveRegAt, wrteeiAt, rfiAt, syncAt, cacheAt, primary, primaryRows, loadStore, loadStoreRows, added, addedRows, opcode30, rows30, arithmetic, arithmeticRows, logical, logicalRows, storage, storageRows, system, systemRows, opcode19, rows19, opcode4, rows4}
 use Rattle.insn.specs.declared.fields.Fields.{Fields}
 use Rattle.insn.specs.declared.instr.Instr.{Instr}
 use Rattle.insn.specs.declared.instr.Decoded.{Decoded}
@@ -17,6 +17,7 @@ use Rattle.insn.specs.declared.instr.LogicOneOp.{LogicOneOp}
 use Rattle.insn.specs.declared.instr.RotateOp.{RotateOp}
 use Rattle.insn.specs.declared.instr.RotateDoubleOp.{RotateDoubleOp}
 use Rattle.insn.specs.declared.instr.ShiftOp.{ShiftOp}
+use Rattle.insn.specs.declared.instr.StackOp.{StackOp}
 use Rattle.insn.specs.declared.instr.BranchOp.{BranchOp}
 use Rattle.insn.specs.declared.instr.SprOp.{SprOp}
 use Rattle.insn.specs.declared.instr.MoveOp.{MoveOp}
@@ -99,6 +100,11 @@ hit-store-double true = (λ f. refl, lit< tt)
 pub hit-multiply-imm : Primary 7 multiplyImmAt
 unfolding primary primaryRows loadStore loadStoreRows added addedRows
 hit-multiply-imm = (λ f. refl, lit< tt)
+
+pub hit-stack : (op : StackOp) → Primary (stackCode op) (stackAt op)
+unfolding primary primaryRows loadStore loadStoreRows added addedRows
+hit-stack StackOp.Lsku = (λ f. refl, lit< tt)
+hit-stack StackOp.Stsku = (λ f. refl, lit< tt)
 
 pub hit-rotate-double : (op : RotateDoubleOp) → Reads (opcode30 (rotateDoubleCode op)) (rotateDoubleAt op) × (rotateDoubleCode op < 8)
 unfolding opcode30 rows30

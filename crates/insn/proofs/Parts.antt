@@ -8,7 +8,7 @@ use lib.Dec.{eqb, lit<}
 use lib.Pow.{pow-pos, mod-pow-add}
 use Rattle.word.proofs.ByBits.{digit-of}
 use Rattle.word.specs.Bits.{digit, bitAt, bitsAt, fieldAt}
-use Rattle.insn.specs.Fields.{sprOf, shOf, mbOf, fieldsOf, wordD, wordX, wordXO, wordXFX, wordE, wordM, wordMD, wordB, wordI}
+use Rattle.insn.specs.Fields.{sprOf, shOf, mbOf, fieldsOf, wordD, wordDD, wordX, wordXO, wordXFX, wordE, wordM, wordMD, wordB, wordI}
 use Rattle.insn.specs.declared.fields.Fields.{Fields}
 
 digit-lt : (b : Bool) → digit b < 2
@@ -43,6 +43,16 @@ pub record DParts (op rt ra imm : ℕ) (f : Fields) : Type 0 where
 pub d-parts : {op rt ra imm : ℕ} → op < 64 → (rt < 32) × (ra < 32) × (imm < 65536) → DParts op rt ra imm (fieldsOf (wordD op rt ra imm))
 unfolding fieldsOf
 d-parts hop h = record { op-is = omega arith; rt-is = omega arith; ra-is = omega arith; imm-is = omega arith }
+
+pub record DDParts (op rt ra dd : ℕ) (f : Fields) : Type 0 where
+  pub op-is : f .op ≡ op
+  pub rt-is : f .rt ≡ rt
+  pub ra-is : f .ra ≡ ra
+  pub dd-is : f .dd ≡ dd
+
+pub dd-parts : {op rt ra dd : ℕ} → op < 64 → (rt < 32) × (ra < 32) × (dd < 8192) → DDParts op rt ra dd (fieldsOf (wordDD op rt ra dd))
+unfolding fieldsOf
+dd-parts hop h = record { op-is = omega arith; rt-is = omega arith; ra-is = omega arith; dd-is = omega arith }
 
 -- the code of an XO form is the last nine bits of that of an X form
 pub record XParts (op rt ra rb x : ℕ) (rc : Bool) (f : Fields) : Type 0 where

@@ -12,8 +12,8 @@ use Rattle.word.proofs.Truth.{and-true}
 use Rattle.word.proofs.Below.{agree-at}
 use Rattle.word.specs.Bits.{bitsAt, fieldAt}
 use Rattle.insn.specs.Codes.{moveFxm, rotateDoubleCode}
-use Rattle.insn.specs.Fields.{fieldsOf, wordD, wordX, wordXO, wordXFX, wordE, wordM, wordMD, wordB, wordI}
-use Rattle.insn.specs.Valid.{fits, regOf, twoRegs, threeRegs, pairedWith, isVdr, isSpr, readOnly, sprOk, isTo, trapForm, markForm, hintOk, loadForm, storeForm, loadDoubleForm, branchForm, validOf}
+use Rattle.insn.specs.Fields.{fieldsOf, wordD, wordDD, wordX, wordXO, wordXFX, wordE, wordM, wordMD, wordB, wordI}
+use Rattle.insn.specs.Valid.{fits, regOf, twoRegs, threeRegs, pairedWith, isVdr, isSpr, readOnly, sprOk, isTo, trapForm, markForm, hintOk, loadForm, storeForm, loadDoubleForm, isDd, stackForm, branchForm, validOf}
 use Rattle.insn.specs.Profile.{has, validOn}
 use Rattle.insn.specs.Write.{wordOf}
 use Rattle.insn.specs.Read.{primary, primaryRows, loadStore, loadStoreRows, added, addedRows, arithmetic, opcode19, opcode4, opcode30, guessOf, settled, decodeOf, keptOn, decodeOn}
@@ -31,8 +31,8 @@ use Rattle.insn.specs.declared.instr.SprOp.{SprOp}
 use Rattle.insn.specs.declared.instr.RotateDoubleOp.{RotateDoubleOp}
 use Rattle.insn.specs.declared.profile.Profile.{Profile}
 use Rattle.insn.specs.declared.instr.CacheOp.{CacheOp}
-use Rattle.insn.proofs.Parts.{DParts, d-parts, XParts, x-parts, XOParts, xo-parts, XFXParts, xfx-parts, EParts, e-parts, MParts, m-parts, MDParts, md-parts, BParts, b-parts, IParts, i-parts}
-use Rattle.insn.proofs.Hits.{Reads, Primary, XO31, Extended, opcode31, X31, hit-arith-imm, hit-arith, hit-arith-one, hit-multiply, hit-multiply-imm, hit-multiply-low, hit-logic-imm, hit-logic, hit-logic-one, hit-compare-imm, hit-compare, hit-rotate-imm, hit-rotate, hit-shift, hit-srawi, hit-rotate-double, hit-load, hit-load-indexed, hit-store, hit-store-indexed, hit-load-double, hit-store-double, hit-branch, hit-branch-if, hit-branch-to, hit-trap, hit-spr, hit-move, hit-wrteei, hit-rfi, hit-sync, hit-cache}
+use Rattle.insn.proofs.Parts.{DParts, d-parts, DDParts, dd-parts, XParts, x-parts, XOParts, xo-parts, XFXParts, xfx-parts, EParts, e-parts, MParts, m-parts, MDParts, md-parts, BParts, b-parts, IParts, i-parts}
+use Rattle.insn.proofs.Hits.{Reads, Primary, XO31, Extended, opcode31, X31, hit-arith-imm, hit-arith, hit-arith-one, hit-multiply, hit-multiply-imm, hit-multiply-low, hit-logic-imm, hit-logic, hit-logic-one, hit-compare-imm, hit-compare, hit-rotate-imm, hit-rotate, hit-shift, hit-srawi, hit-rotate-double, hit-load, hit-load-indexed, hit-store, hit-store-indexed, hit-load-double, hit-store-double, hit-stack, hit-branch, hit-branch-if, hit-branch-to, hit-trap, hit-spr, hit-move, hit-wrteei, hit-rfi, hit-sync, hit-cache}
 
 -- a word that reads as an instruction is what that instruction is written as, and the instruction is valid
 settled-is : (w : ℕ) (d : Decoded) (i : Instr) → settled w d ≡ Decoded.Insn i → (validOf i ≡ true) × (wordOf i ≡ w)
@@ -169,6 +169,12 @@ by-e {x} e hit same =
     let p : EParts e x f = e-parts e (hit .1) in
     of-31 .1 f x (p .op-is) (p .x-is) (p .xo-is) ∙ hit .0 f ∙ ap Decoded.Insn (same f p)
 
+by-dd : {op rt ra dd : ℕ} {at : Fields → Instr} {i : Instr} → Primary op at → (rt < 32) × (ra < 32) × (dd < 8192) → Makes (DDParts op rt ra dd) at i → guessOf (fieldsOf (wordDD op rt ra dd)) ≡ Decoded.Insn i
+by-dd {op} {rt} {ra} {dd} hit h same =
+    let f = fieldsOf (wordDD op rt ra dd) in
+    let p : DDParts op rt ra dd f = dd-parts (hit .1) h in
+    ap (λ (n : ℕ). primary n f) (p .op-is) ∙ hit .0 f ∙ ap Decoded.Insn (same f p)
+
 by-m : {op rs ra rb mb me : ℕ} {at : Fields → Instr} {i : Instr} (rc : Bool) → Primary op at → (rs < 32) × (ra < 32) × (rb < 32) × (mb < 32) × (me < 32) → Makes (MParts op rs ra rb mb me rc) at i → guessOf (fieldsOf (wordM op rs ra rb mb me rc)) ≡ Decoded.Insn i
 by-m {op} {rs} {ra} {rb} {mb} {me} rc hit h same =
     let f = fieldsOf (wordM op rs ra rb mb me rc) in
@@ -269,6 +275,10 @@ guess-written (Instr.LoadStore (LoadStore.StoreDouble update ds ra d)) v =
     let h = and-true (fits 16 d) (isVdr ds && regOf ra && storeForm update ra) v in
     let r = ands (regOf ds) (regOf (pairedWith ds) ∷ regOf ra ∷ storeForm update ra ∷ []) (h .1) in
     by-d (hit-store-double update) (omega facts) (λ f p. rw (p .rt-is, p .ra-is, p .imm-is))
+guess-written (Instr.Stack dd op rt ra) v =
+    let h = and-true (fits 13 dd) (twoRegs rt ra && stackForm rt ra && isDd op dd) v in
+    let r = ands (regOf rt) (regOf ra ∷ stackForm rt ra ∷ isDd op dd ∷ []) (h .1) in
+    by-dd (hit-stack op) (omega facts) (λ f p. rw (p .rt-is, p .ra-is, p .dd-is))
 guess-written (Instr.Branch (Branch.Always aa lk li)) v = by-i aa lk hit-branch (omega facts) (λ f p. rw (p .aa-is, p .rc-is, p .li-is))
 guess-written (Instr.Branch (Branch.Conditional bo bi bd aa lk)) v =
     let h = ands (fits 5 bo) (fits 2 bi ∷ fits 14 bd ∷ []) v in

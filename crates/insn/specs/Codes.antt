@@ -11,6 +11,7 @@ use Rattle.insn.specs.declared.instr.LogicOneOp.{LogicOneOp}
 use Rattle.insn.specs.declared.instr.RotateOp.{RotateOp}
 use Rattle.insn.specs.declared.instr.RotateDoubleOp.{RotateDoubleOp}
 use Rattle.insn.specs.declared.instr.ShiftOp.{ShiftOp}
+use Rattle.insn.specs.declared.instr.StackOp.{StackOp}
 use Rattle.insn.specs.declared.instr.BranchOp.{BranchOp}
 use Rattle.insn.specs.declared.instr.SprOp.{SprOp}
 use Rattle.insn.specs.declared.instr.MoveOp.{MoveOp}
@@ -57,6 +58,11 @@ loadDoubleCode true = 9  -- lvdu 9.4.47
 abbrev pub storeDoubleCode : Bool → ℕ
 storeDoubleCode false = 6  -- stvd 9.4.90
 storeDoubleCode true = 22  -- stvdu 9.4.91
+
+-- Table 1.69
+abbrev pub stackCode : StackOp → ℕ
+stackCode StackOp.Lsku = 58  -- 9.4.45
+stackCode StackOp.Stsku = 62  -- 9.4.89
 
 -- primary opcodes of M forms; rlwnm is 23
 abbrev pub rotateCode : RotateOp → ℕ

@@ -17,7 +17,7 @@ abbrev pub mbOf : ℕ → ℕ
 mbOf w = fieldAt 26 26 (bitsAt w 26 26) + fieldAt 27 31 (bitsAt w 21 25)
 
 -- rt is RS, TO, BO or a hint too; ra is BI too; rb is SH or BH too; imm is SI, UI or D; rc is LK or TG too;
--- x is the extended opcode of X forms, xo that of XO forms, md that of MD forms, whose SH is sh and whose MB or ME is mb6
+-- x is the extended opcode of X forms, xo that of XO forms, md that of MD forms, whose SH is sh and whose MB or ME is mb6; dd is DD of DD forms
 unfoldable pub fieldsOf : ℕ → Fields
 fieldsOf w =
     record {
@@ -32,6 +32,7 @@ fieldsOf w =
       xo = bitsAt w 22 30;
       imm = bitsAt w 16 31;
       bd = bitsAt w 16 29;
+      dd = bitsAt w 16 28;
       li = bitsAt w 6 29;
       md = bitsAt w 27 29;
       spr = sprOf w;
@@ -46,6 +47,10 @@ fieldsOf w =
 -- what no part names is reserved, and zero
 abbrev pub wordD : ℕ → ℕ → ℕ → ℕ → ℕ
 wordD op rt ra imm = fieldAt 0 5 op + fieldAt 6 10 rt + fieldAt 11 15 ra + fieldAt 16 31 imm
+
+-- CX (29) is 0, and XO (30:31) is 3 (Tables 1.69, 1.71)
+abbrev pub wordDD : ℕ → ℕ → ℕ → ℕ → ℕ
+wordDD op rt ra dd = fieldAt 0 5 op + fieldAt 6 10 rt + fieldAt 11 15 ra + fieldAt 16 28 dd + fieldAt 30 31 3
 
 abbrev pub wordX : ℕ → ℕ → ℕ → ℕ → ℕ → Bool → ℕ
 wordX op rt ra rb x rc =

@@ -39,6 +39,7 @@ on42 (Instr.Logical i) = true
 on42 (Instr.Compare i) = true
 on42 (Instr.Rotate i) = rotateOn42 i
 on42 (Instr.LoadStore i) = true
+on42 (Instr.Stack dd op rt ra) = false
 on42 (Instr.Branch i) = true
 on42 (Instr.Trap to ra rb tg) = trapForm to ra rb
 on42 (Instr.System i) = true

@@ -5,7 +5,7 @@ use mathlib.Core.Bool.{Bool, true, false, cond, _&&_}
 use mathlib.Core.List.{List, [], _∷_, _++_}
 use lib.Dec.{eqb}
 use Rattle.insn.specs.Fields.{fieldsOf}
-use Rattle.insn.specs.Codes.{arithImmCode, arithCode, arithOneCode, multiplyCode, logicImmCode, logicCode, logicOneCode, compareImmCode, compareCode, rotateCode, shiftCode, loadCode, storeCode, loadIndexedCode, storeIndexedCode, loadDoubleCode, storeDoubleCode, rotateDoubleCode, branchCode, sprCode, moveCode, cacheCode}
+use Rattle.insn.specs.Codes.{arithImmCode, arithCode, arithOneCode, multiplyCode, logicImmCode, logicCode, logicOneCode, compareImmCode, compareCode, rotateCode, shiftCode, loadCode, storeCode, loadIndexedCode, storeIndexedCode, loadDoubleCode, storeDoubleCode, stackCode, rotateDoubleCode, branchCode, sprCode, moveCode, cacheCode}
 use Rattle.insn.specs.Valid.{validOf}
 use Rattle.insn.specs.Profile.{has}
 use Rattle.insn.specs.Write.{wordOf}
@@ -29,6 +29,7 @@ use Rattle.insn.specs.declared.instr.LogicOneOp.{LogicOneOp}
 use Rattle.insn.specs.declared.instr.RotateOp.{RotateOp}
 use Rattle.insn.specs.declared.instr.RotateDoubleOp.{RotateDoubleOp}
 use Rattle.insn.specs.declared.instr.ShiftOp.{ShiftOp}
+use Rattle.insn.specs.declared.instr.StackOp.{StackOp}
 use Rattle.insn.specs.declared.instr.BranchOp.{BranchOp}
 use Rattle.insn.specs.declared.instr.SprOp.{SprOp}
 use Rattle.insn.specs.declared.instr.MoveOp.{MoveOp}
@@ -44,6 +45,7 @@ use Rattle.insn.specs.declared.instr.LogicOneOp.the-variants.{Extsb, Ext
 use Rattle.insn.specs.declared.instr.RotateOp.the-variants.{Rlwimi, Rlwinm}
 use Rattle.insn.specs.declared.instr.RotateDoubleOp.the-variants.{Rldicl, Rldicr, Rldimi}
 use Rattle.insn.specs.declared.instr.ShiftOp.the-variants.{Slw, Srw, Sraw}
+use Rattle.insn.specs.declared.instr.StackOp.the-variants.{Lsku, Stsku}
 use Rattle.insn.specs.declared.instr.BranchOp.the-variants.{Bclr, Bcctr}
 use Rattle.insn.specs.declared.instr.SprOp.the-variants.{Mfspr, Mtspr}
 use Rattle.insn.specs.declared.instr.MoveOp.the-variants.{Mfcr, Mtcr0, Mfmsr, Mtmsr, Wrtee}
@@ -117,6 +119,9 @@ loadDoubleAt update f = Instr.LoadStore (LoadStore.LoadDouble update (f .rt) (f 
 
 abbrev pub storeDoubleAt : Bool → Fields → Instr
 storeDoubleAt update f = Instr.LoadStore (LoadStore.StoreDouble update (f .rt) (f .ra) (f .imm))
+
+abbrev pub stackAt : StackOp → Fields → Instr
+stackAt op f = Instr.Stack (f .dd) op (f .rt) (f .ra)
 
 abbrev pub branchAt : Fields → Instr
 branchAt f = Instr.Branch (Branch.Always (f .aa) (f .rc) (f .li))
@@ -226,7 +231,7 @@ opcode30 md = find rows30 nothing md
 
 -- primary opcodes, the 42X's apart
 unfoldable pub addedRows : List Row
-addedRows = row 7 multiplyImmAt ∷ (30, λ f. opcode30 (f .md) f) ∷ []
+addedRows = (row 7 multiplyImmAt ∷ (30, λ f. opcode30 (f .md) f) ∷ []) ++ rows stackCode stackAt (Lsku ∷ Stsku ∷ [])
 
 unfoldable pub added : ℕ → Fields → Decoded
 added op = find addedRows nothing op

@@ -11,6 +11,7 @@ use Rattle.insn.specs.declared.instr.Rotate.{Rotate}
 use Rattle.insn.specs.declared.instr.LoadStore.{LoadStore}
 use Rattle.insn.specs.declared.instr.Branch.{Branch}
 use Rattle.insn.specs.declared.instr.System.{System}
+use Rattle.insn.specs.declared.instr.StackOp.{StackOp}
 use Rattle.insn.specs.declared.instr.BranchOp.{BranchOp}
 use Rattle.insn.specs.declared.instr.SprOp.{SprOp}
 use Rattle.insn.specs.declared.instr.CacheOp.{CacheOp}
@@ -60,6 +61,15 @@ storeForm update ra = not update || not (eqb ra 0)
 -- of lvdu RA = DT, RA = (DT + 1) % 32 and RA = 0 (9.4.47): those of a load into either GPR; stvdu goes by storeForm (9.4.91; docs/DECISIONS.md D38)
 abbrev pub loadDoubleForm : Bool → ℕ → ℕ → Bool
 loadDoubleForm update dt ra = loadForm update dt ra && loadForm update (pairedWith dt) ra
+
+-- DD_0 is bit 19 of a word that holds DD: lsku goes up, by one doubleword at least (9.4.45), and stsku down (9.4.89)
+abbrev pub isDd : StackOp → ℕ → Bool
+isDd StackOp.Lsku dd = not (bitAt dd 19) && not (eqb dd 0)
+isDd StackOp.Stsku dd = bitAt dd 19
+
+-- RT or RS is RA, which is not 0
+abbrev pub stackForm : ℕ → ℕ → Bool
+stackForm rt ra = eqb rt ra && not (eqb ra 0)
 
 -- bit n of the five of BO
 abbrev pub boBit : ℕ → ℕ → Bool
@@ -113,6 +123,7 @@ validOf (Instr.LoadStore (LoadStore.Store width update rs ra d)) = fits 16 d && 
 validOf (Instr.LoadStore (LoadStore.StoreIndexed width rs ra rb)) = threeRegs rs ra rb
 validOf (Instr.LoadStore (LoadStore.LoadDouble update dt ra d)) = fits 16 d && (isVdr dt && regOf ra && loadDoubleForm update dt ra)
 validOf (Instr.LoadStore (LoadStore.StoreDouble update ds ra d)) = fits 16 d && (isVdr ds && regOf ra && storeForm update ra)
+validOf (Instr.Stack dd op rt ra) = fits 13 dd && (twoRegs rt ra && stackForm rt ra && isDd op dd)
 validOf (Instr.Branch (Branch.Always aa lk li)) = fits 24 li
 validOf (Instr.Branch (Branch.Conditional bo bi bd aa lk)) = fits 5 bo && fits 2 bi && fits 14 bd
 validOf (Instr.Branch (Branch.Register op bo bi bh lk)) = fits 5 bo && fits 2 bi && fits 2 bh && branchForm op bo

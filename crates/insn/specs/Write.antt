@@ -2,8 +2,8 @@
 use Prim.Native.Nat.{ℕ}
 use mathlib.Core.Bool.{Bool, false, cond}
 use Rattle.word.specs.Bits.{bitsAt}
-use Rattle.insn.specs.Fields.{wordD, wordX, wordXO, wordXFX, wordE, wordM, wordMD, wordB, wordI}
-use Rattle.insn.specs.Codes.{arithImmCode, arithCode, arithOneCode, multiplyCode, logicImmCode, logicCode, logicOneCode, compareImmCode, compareCode, rotateCode, shiftCode, loadCode, storeCode, loadIndexedCode, storeIndexedCode, loadDoubleCode, storeDoubleCode, rotateDoubleCode, branchCode, sprCode, moveCode, moveFxm, cacheCode}
+use Rattle.insn.specs.Fields.{wordD, wordDD, wordX, wordXO, wordXFX, wordE, wordM, wordMD, wordB, wordI}
+use Rattle.insn.specs.Codes.{arithImmCode, arithCode, arithOneCode, multiplyCode, logicImmCode, logicCode, logicOneCode, compareImmCode, compareCode, rotateCode, shiftCode, loadCode, storeCode, loadIndexedCode, storeIndexedCode, loadDoubleCode, storeDoubleCode, stackCode, rotateDoubleCode, branchCode, sprCode, moveCode, moveFxm, cacheCode}
 use Rattle.insn.specs.Valid.{validOf}
 use Rattle.insn.specs.Profile.{validOn}
 use Rattle.insn.specs.declared.profile.Profile.{Profile}
@@ -40,6 +40,7 @@ wordOf (Instr.LoadStore (LoadStore.Store width update rs ra d)) = wordD (storeCo
 wordOf (Instr.LoadStore (LoadStore.StoreIndexed width rs ra rb)) = wordX 31 rs ra rb (storeIndexedCode width) false
 wordOf (Instr.LoadStore (LoadStore.LoadDouble update dt ra d)) = wordD (loadDoubleCode update) dt ra d
 wordOf (Instr.LoadStore (LoadStore.StoreDouble update ds ra d)) = wordD (storeDoubleCode update) ds ra d
+wordOf (Instr.Stack dd op rt ra) = wordDD (stackCode op) rt ra dd
 wordOf (Instr.Branch (Branch.Always aa lk li)) = wordI li aa lk  -- b 9.4.14
 wordOf (Instr.Branch (Branch.Conditional bo bi bd aa lk)) = wordB bo bi bd aa lk  -- bc 9.4.15
 wordOf (Instr.Branch (Branch.Register op bo bi bh lk)) = wordX 19 bo bi bh (branchCode op) lk

@@ -1,6 +1,6 @@
 // The opcode of each mnemonic: the primary opcode in bits 0:5 of the D and M forms, the extended one of the others.
 ghost use mathlib.Core.Path.{_≡_};
-ghost use Rattle.insn.specs.Codes.{arithImmCode, arithCode, arithOneCode, multiplyCode, logicImmCode, logicCode, logicOneCode, compareImmCode, compareCode, rotateCode, shiftCode, loadCode, storeCode, loadIndexedCode, storeIndexedCode, loadDoubleCode, storeDoubleCode, rotateDoubleCode, branchCode, sprCode, moveCode, moveFxm, cacheCode};
+ghost use Rattle.insn.specs.Codes.{arithImmCode, arithCode, arithOneCode, multiplyCode, logicImmCode, logicCode, logicOneCode, compareImmCode, compareCode, rotateCode, shiftCode, loadCode, storeCode, loadIndexedCode, storeIndexedCode, loadDoubleCode, storeDoubleCode, stackCode, rotateDoubleCode, branchCode, sprCode, moveCode, moveFxm, cacheCode};
 use crate::instr::*;
 use word::bits::digit_of;
 use word::width::Width;
@@ -176,6 +176,15 @@ pub fn store_double_code(update: bool) -> u32
     ensures { λ r. ⌜ r ≡ storeDoubleCode update ⌝ }
 {
     if update { 22 } else { 6 }
+}
+
+pub fn stack_code(op: StackOp) -> u32
+    ensures { λ r. ⌜ r ≡ stackCode op ⌝ }
+{
+    match op {
+        StackOp::Lsku => 58,
+        StackOp::Stsku => 62,
+    }
 }
 
 // Under primary opcode 30.

@@ -1,6 +1,6 @@
 // The parts of a word, and words made of parts (Power ISA 2.07, instruction formats).
 ghost use mathlib.Core.Path.{_≡_};
-ghost use Rattle.insn.specs.Fields.{fieldsOf, sprOf, shOf, mbOf, wordD, wordX, wordXO, wordXFX, wordE, wordM, wordMD, wordB, wordI};
+ghost use Rattle.insn.specs.Fields.{fieldsOf, sprOf, shOf, mbOf, wordD, wordDD, wordX, wordXO, wordXFX, wordE, wordM, wordMD, wordB, wordI};
 use word::bits::*;
 
 // A word and each of its parts that some form names.
@@ -16,6 +16,7 @@ pub struct Fields {
     pub xo: u16,
     pub imm: u16,
     pub bd: u16,
+    pub dd: u16,
     pub li: u32,
     pub md: u8,
     pub spr: u16,
@@ -42,6 +43,7 @@ pub fn fields_of(word: u32) -> Fields
         xo: bits_at(word, Bit(22), Bit(30)) as u16,
         imm: bits_at(word, Bit(16), Bit(31)) as u16,
         bd: bits_at(word, Bit(16), Bit(29)) as u16,
+        dd: bits_at(word, Bit(16), Bit(28)) as u16,
         li: bits_at(word, Bit(6), Bit(29)),
         md: bits_at(word, Bit(27), Bit(29)) as u8,
         spr: spr_of(word),
@@ -88,6 +90,17 @@ pub fn word_d(op: u32, rt: u8, ra: u8, imm: u16) -> u32
         + field_at(Bit(6), Bit(10), rt as u32)
         + field_at(Bit(11), Bit(15), ra as u32)
         + field_at(Bit(16), Bit(31), imm as u32)
+}
+
+// CX is 0, and the extended opcode 3.
+pub fn word_dd(op: u32, rt: u8, ra: u8, dd: u16) -> u32
+    ensures { λ r. ⌜ r ≡ wordDD op rt ra dd ⌝ }
+{
+    field_at(Bit(0), Bit(5), op)
+        + field_at(Bit(6), Bit(10), rt as u32)
+        + field_at(Bit(11), Bit(15), ra as u32)
+        + field_at(Bit(16), Bit(28), dd as u32)
+        + field_at(Bit(30), Bit(31), 3)
 }
 
 pub fn word_x(op: u32, rt: u8, ra: u8, rb: u8, x: u32, rc: bool) -> u32

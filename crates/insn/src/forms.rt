@@ -207,6 +207,13 @@ pub fn store_double(update: bool, ds: u8, ra: u8, d: u16) -> Written
     written(valid, word_d(store_double_code(update), ds, ra, d))
 }
 
+pub fn stack(op: StackOp, rt: u8, ra: u8, dd: u16) -> Written
+    ensures { λ r. ⌜ r ≡ writtenOf (Instr.Stack dd op rt ra) ⌝ }
+{
+    let valid = (dd < 0x2000) & (two_defined(rt, ra) & stack_form(rt, ra) & is_dd(op, dd));
+    written(valid, word_dd(stack_code(op), rt, ra, dd))
+}
+
 pub fn branch(aa: bool, lk: bool, li: u32) -> Written
     ensures { λ r. ⌜ r ≡ writtenOf (Instr.Branch (Branch.Always aa lk li)) ⌝ }
 {

@@ -9,6 +9,13 @@ pub enum Instr {
     Compare(Compare),
     Rotate(Rotate),
     LoadStore(LoadStore),
+    // lsku and stsku; rt is RS of stsku. dd comes first: with it last the run of a 42 is slower (docs/SPEED.md)
+    Stack {
+        dd: u16,
+        op: StackOp,
+        rt: u8,
+        ra: u8,
+    },
     Branch(Branch),
     // tw; it traps where to is 31
     Trap {
@@ -300,6 +307,11 @@ pub enum ShiftOp {
     Slw,
     Srw,
     Sraw,
+}
+
+pub enum StackOp {
+    Lsku,
+    Stsku,
 }
 
 pub enum BranchOp {

@@ -129,6 +129,12 @@ fn on_42(i: Instr) -> bool
         Instr::Compare(_) => true,
         Instr::Rotate(r) => rotate_on_42(r),
         Instr::LoadStore(_) => true,
+        Instr::Stack {
+            op: _,
+            rt: _,
+            ra: _,
+            dd: _,
+        } => false,
         Instr::Branch(_) => true,
         Instr::Trap { to, ra, rb, tg: _ } => trap_form(to, ra, rb),
         Instr::System(_) => true,

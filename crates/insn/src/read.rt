@@ -8,7 +8,7 @@ ghost use Rattle.insn.specs.Fields.{fieldsOf};
 ghost use Rattle.insn.specs.Valid.{validOf};
 ghost use Rattle.insn.specs.Write.{writtenOf};
 ghost use Rattle.insn.specs.declared.instr.Decoded.{Decoded};
-ghost use Rattle.insn.specs.Read.{settleOf, settled, decodeOf, keptOn, decodeOn, loadStore, added, opcode4, opcode19, opcode30, arithmetic, logical, storage, system, arithImmAt, arithAt, arithOneAt, multiplyAt, multiplyImmAt, multiplyLowAt, logicImmAt, logicAt, logicOneAt, compareImmAt, compareAt, rotateImmAt, rotateAt, shiftAt, srawiAt, rotateDoubleAt, loadAt, loadIndexedAt, storeAt, storeIndexedAt, loadDoubleAt, storeDoubleAt, branchAt, branchIfAt, branchToAt, trapAt, moveSprAt, moveRegAt, wrteeiAt, rfiAt, syncAt, cacheAt};
+ghost use Rattle.insn.specs.Read.{settleOf, settled, decodeOf, keptOn, decodeOn, loadStore, added, opcode4, opcode19, opcode30, arithmetic, logical, storage, system, arithImmAt, arithAt, arithOneAt, multiplyAt, multiplyImmAt, multiplyLowAt, logicImmAt, logicAt, logicOneAt, compareImmAt, compareAt, rotateImmAt, rotateAt, shiftAt, srawiAt, rotateDoubleAt, loadAt, loadIndexedAt, storeAt, storeIndexedAt, loadDoubleAt, storeDoubleAt, stackAt, branchAt, branchIfAt, branchToAt, trapAt, moveSprAt, moveRegAt, wrteeiAt, rfiAt, syncAt, cacheAt};
 use crate::fields::fields_of;
 use crate::forms;
 use crate::instr::*;
@@ -133,6 +133,8 @@ fn read_added(word: u32) -> Decoded
     match op {
         7 => multiply_imm(word),
         30 => read_30(word),
+        58 => stack(word, StackOp::Lsku),
+        62 => stack(word, StackOp::Stsku),
         _ => Decoded::Illegal,
     }
 }
@@ -608,6 +610,19 @@ fn store_double(word: u32, update: bool) -> Decoded
         d: f.imm,
     });
     settle_whole(i, forms::store_double(update, f.rt, f.ra, f.imm))
+}
+
+fn stack(word: u32, op: StackOp) -> Decoded
+    ensures { λ r. ⌜ r ≡ settleOf word (stackAt op (fieldsOf word)) ⌝ }
+{
+    let f = fields_of(word);
+    let i = Instr::Stack {
+        op,
+        rt: f.rt,
+        ra: f.ra,
+        dd: f.dd,
+    };
+    settle(word, i, forms::stack(op, f.rt, f.ra, f.dd))
 }
 
 fn branch(word: u32) -> Decoded

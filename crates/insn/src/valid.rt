@@ -1,7 +1,7 @@
 // Which registers there are, which special-purpose registers have a number, and which forms are valid.
 ghost use mathlib.Core.Path.{_≡_};
 ghost use Prim.Native.Nat.{_<_};
-ghost use Rattle.insn.specs.Valid.{regOf, twoRegs, threeRegs, pairedWith, isVdr, isSpr, readOnly, sprOk, loadForm, storeForm, loadDoubleForm, boBit, branchForm, isTo, trapForm, markForm, hintOk};
+ghost use Rattle.insn.specs.Valid.{regOf, twoRegs, threeRegs, pairedWith, isVdr, isSpr, readOnly, sprOk, loadForm, storeForm, loadDoubleForm, isDd, stackForm, boBit, branchForm, isTo, trapForm, markForm, hintOk};
 use crate::instr::*;
 use word::bits::Bit;
 use word::bits::bit_at;
@@ -91,6 +91,22 @@ pub fn load_double_form(update: bool, dt: u8, ra: u8) -> bool
     ensures { λ r. ⌜ r ≡ loadDoubleForm update dt ra ⌝ }
 {
     load_form(update, dt, ra) & load_form(update, paired_with(dt), ra)
+}
+
+// DD_0 and the rest: up for lsku, down for stsku.
+pub fn is_dd(op: StackOp, dd: u16) -> bool
+    ensures { λ r. ⌜ r ≡ isDd op dd ⌝ }
+{
+    match op {
+        StackOp::Lsku => !bit_at(dd as u32, Bit(19)) & (dd != 0),
+        StackOp::Stsku => bit_at(dd as u32, Bit(19)),
+    }
+}
+
+pub fn stack_form(rt: u8, ra: u8) -> bool
+    ensures { λ r. ⌜ r ≡ stackForm rt ra ⌝ }
+{
+    (rt == ra) & (ra != 0)
 }
 
 // Bit n of the five of BO.

@@ -26,6 +26,7 @@ pub fn write_42x(i: Instr) -> Written
         Instr::Compare(c) => compare(c),
         Instr::Rotate(r) => rotate(r),
         Instr::LoadStore(s) => load_store(s),
+        Instr::Stack { op, rt, ra, dd } => forms::stack(op, rt, ra, dd),
         Instr::Branch(b) => branch(b),
         Instr::Trap { to, ra, rb, tg } => forms::trap(to, ra, rb, tg),
         Instr::System(s) => system(s),
