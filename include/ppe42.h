@@ -218,7 +218,8 @@ uint64_t ppe42_disassemble(uint32_t word, uint8_t *out, size_t out_len);
 /* The 42X. Each of these is the function above whose name it has, of a 42X: arguments, answers and refusals are the same. A 42X has
  * mulli, mullw, rldicl, rldicr, rldimi, lsku and stsku besides, takes tw with TG as no trap, defines more bits of DBCR and TCR,
  * and has its machine check at 020 (docs/CORE.md). Captures have one form; which core they are of is for the caller to know.
- * S-records are the same for both. */
+ * S-records are the same for both. ppe42x_disassemble of a tw with TG gives the line without it, as ppe42_disassemble does; with a
+ * TO or a register that tw without TG has not, that line is no instruction. */
 uint64_t ppe42x_run(uint8_t *state, size_t state_len, uint8_t *memory, size_t memory_len, const uint8_t *events,
                     size_t events_len, uint32_t budget);
 uint64_t ppe42x_run_reach(uint8_t *state, size_t state_len, uint8_t *memory, size_t memory_len, const uint8_t *events,

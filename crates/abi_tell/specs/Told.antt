@@ -18,11 +18,13 @@ tellAnswer p s m e =
     let r = stepRefusal p (lentState s) m e in
     pick (isState s) (answerOf r (pick (acceptsOf r) (codeOf (toldOf p (lentState s) m e)) 0)) (answerOf Refusal.Capture 0)
 
--- the first address below, the bytes above, and 2^63 for a write
+-- the first address below, the bytes above, and 2^63 for a write; of a frame both its headers and all between them
 abbrev pub packedOf : Use → ℕ
 packedOf Use.Idle = 0
 packedOf (Use.Reads a n) = n * 2 ^ 32 + a
 packedOf (Use.Writes a n) = 2 ^ 63 + (n * 2 ^ 32 + a)
+packedOf (Use.Pops sp ea n) = (n + 2) * 8 * 2 ^ 32 + sp
+packedOf (Use.Pushes sp ea n) = 2 ^ 63 + ((n + 2) * 8 * 2 ^ 32 + ea)
 
 -- the data access that the step would try; refused, none
 unfoldable pub accessAnswer : Profile → List ℕ → List ℕ → ℕ → ℕ

@@ -23,7 +23,7 @@ pub fn tell(profile: Profile, state: &[u8], memory: &[u8], event: u8) -> u64
     answer(refusal, 0)
 }
 
-// An access: its first address, 2^32 times its length, and 2^63 for a write.
+// An access: its first address, 2^32 times its length, and 2^63 for a write. A frame has two headers besides its doublewords.
 fn pack(access: Use) -> u64
     ensures { λ r. ⌜ r ≡ packedOf access ⌝ }
 {
@@ -32,6 +32,10 @@ fn pack(access: Use) -> u64
         Use::Reads { at, bytes } => bytes as u64 * 0x1_0000_0000 + at as u64,
         Use::Writes { at, bytes } => {
             0x8000_0000_0000_0000 + (bytes as u64 * 0x1_0000_0000 + at as u64)
+        }
+        Use::Pops { sp, ea: _, n } => (n as u64 + 2) * 8 * 0x1_0000_0000 + sp as u64,
+        Use::Pushes { sp: _, ea, n } => {
+            0x8000_0000_0000_0000 + ((n as u64 + 2) * 8 * 0x1_0000_0000 + ea as u64)
         }
     }
 }

@@ -1,7 +1,7 @@
 -- A step from a running core leaves a halt code from 0 to 5, and 0 or 1 if it reached past its memory. Assumes nothing.
 use Prim.Native.Nat.{ℕ, _≤_}
 use mathlib.Core.Bool.{Bool, true, false, _&&_, _||_}
-use mathlib.Core.List.{List}
+use mathlib.Core.List.{List, [], _∷_}
 use mathlib.Core.Path.{_≡_, refl, sym}
 use lib.Dec.{eqb, lit≤}
 use borrow.Author.Tests.{eq-eqb}
@@ -11,7 +11,7 @@ use Rattle.word.specs.Width.{bytes}
 use Rattle.word.proofs.Truth.{never}
 use Rattle.word.specs.declared.sum.Sum.{Sum}
 use Rattle.word.specs.declared.shift.Shifted.{Shifted}
-use Rattle.memory.specs.Access.{pick, accessOf, reachesPast}
+use Rattle.memory.specs.Access.{pick, alignedOf, accessOf, reachesPast}
 use Rattle.memory.specs.Load.{loaded, loadOf, loadedDouble, loadDoubleOf, fetchOf}
 use Rattle.memory.specs.Store.{blockAt}
 use Rattle.memory.specs.declared.access.Access.{Access}
@@ -27,12 +27,13 @@ use Rattle.insn.specs.declared.instr.Compare.{Compare}
 use Rattle.insn.specs.declared.instr.Rotate.{Rotate}
 use Rattle.insn.specs.declared.instr.ShiftOp.{ShiftOp}
 use Rattle.insn.specs.declared.instr.LoadStore.{LoadStore}
+use Rattle.insn.specs.declared.instr.StackOp.{StackOp}
 use Rattle.insn.specs.declared.instr.CacheOp.{CacheOp}
 use Rattle.insn.specs.declared.instr.Branch.{Branch}
 use Rattle.insn.specs.declared.instr.System.{System}
 use Rattle.insn.specs.declared.instr.SprOp.{SprOp}
 use Rattle.insn.specs.declared.instr.MoveOp.{MoveOp}
-use Rattle.machine.specs.State.{same, with, withGpr, withVdr}
+use Rattle.machine.specs.State.{gprOf, same, with, withGpr, withVdr}
 use Rattle.machine.specs.Interrupt.{enteredOf, vectorFor, accessNoted, programNoted, notedOf, promotedOf, codeOf, haltedOf, takenFor, interruptedOf}
 use Rattle.machine.specs.Timer.{eventNoted, tickedOf, actsOf, actedOf}
 use Rattle.machine.specs.Result.{nextOf, cr0Of, recordedOf, carriedOf, overflowedOf, resultOf, recordedDoubleOf, doubleResultOf}
@@ -41,6 +42,7 @@ use Rattle.machine.specs.Logical.{logicalOf}
 use Rattle.machine.specs.Compare.{comparedOf, compareOf}
 use Rattle.machine.specs.Rotate.{shiftedOf, shiftOf, rotateOf}
 use Rattle.machine.specs.LoadStore.{offsetEa, indexedEa, updatedOf, loadedState, loadAt, storedState, storeAt, loadedDoubleState, loadDoubleAt, storeDoubleAt, loadStoreOf}
+use Rattle.machine.specs.Stack.{Part, pair, link, back, addressOf, sizeOf, readGpr, stateAfter, memoryAfter, storesOf, goesOn, framedOf, stackOf}
 use Rattle.machine.specs.Branch.{linkedOf, branchedOf, branchOf}
 use Rattle.machine.specs.Cache.{clearedState, clearAt, cacheOf}
 use Rattle.machine.specs.System.{trapOf, sprOf, resetOf, dbcrWritten, decWritten, isrWritten, tsrWritten, written, sprWritten, enabledOf, movedOf, returnedOf, systemOf}
@@ -282,7 +284,35 @@ module _ (p : Profile) (s : State) (z : s .halt ≡ 0) where
   clear-left m Access.Unaligned ea = fault (Cause.Alignment ea true)
   clear-left m Access.Outside ea = outside (Cause.DataStorage ea true)
 
+-- an access of a frame halts nothing by itself
+read-halt : (s : State) (ra n v : ℕ) → s .halt ≡ 0 → readGpr s ra n v .halt ≡ 0
+unfolding withGpr
+read-halt s ra n v z = picked (λ (t : State). t .halt ≡ 0) (eqb n ra) z z
+
+part-halt : (op : StackOp) (ra : ℕ) (x : Part) (s : State) (m : List ℕ) → s .halt ≡ 0 → stateAfter op ra x s m .halt ≡ 0
+unfolding with
+part-halt StackOp.Lsku ra (pair n a) s m z = read-halt _ ra _ _ (read-halt s ra n _ z)
+part-halt StackOp.Lsku ra (link a) s m z = z
+part-halt StackOp.Lsku ra (back a) s m z = z
+part-halt StackOp.Stsku ra x s m z = z
+
+part-left : (p : Profile) (s : State) (z : s .halt ≡ 0) (m : List ℕ) (store : Bool) (a : ℕ) (k : Access) {rest : After} → Left rest → Left (goesOn p s m store a k rest)
+part-left p s z m store a Access.Served l = l
+part-left p s z m store a Access.Unaligned l = fault p s z (Cause.Alignment a store)
+part-left p s z m store a Access.Outside l = outside p s z (Cause.DataStorage a store)
+
+framed-left : (p : Profile) (op : StackOp) (ra sp ea : ℕ) (xs : List Part) (s : State) (m : List ℕ) → s .halt ≡ 0 → Left (framedOf p op ra sp ea xs s m)
+unfolding framedOf
+framed-left p op ra sp ea [] s m z = untold (next-coded (gpr-coded (with-coded (five p s z) Reg.Edr _ refl) ra ea))
+framed-left p op ra sp ea (x ∷ xs) s m z =
+    part-left p s z m (storesOf op) (addressOf x) (accessOf (length m) (addressOf x) (sizeOf x))
+    (framed-left p op ra sp ea xs (stateAfter op ra x s m) (memoryAfter op ra x s m) (part-halt op ra x s m z))
+
 module _ (p : Profile) (s : State) (z : s .halt ≡ 0) (m : List ℕ) where
+  stack-left : (op : StackOp) (ra dd : ℕ) → Left (stackOf p s m op ra dd)
+  unfolding stackOf
+  stack-left op ra dd = picked Left (alignedOf (gprOf s ra) 8) (framed-left p op ra _ _ _ s m z) (fault p s z (Cause.Alignment (gprOf s ra) (storesOf op)))
+
   load-store-left : (i : LoadStore) → Left (loadStoreOf p s m i)
   unfolding loadStoreOf loadAt storeAt loadDoubleAt storeDoubleAt loadOf loadDoubleOf
   load-store-left (LoadStore.Load w update rt ra d) = load-left p s z m (accessOf (length m) (offsetEa s ra d) (bytes w)) _ rt update ra _
@@ -306,6 +336,7 @@ module _ (p : Profile) (s : State) (z : s .halt ≡ 0) (m : List ℕ) where
   execute-left w (Instr.Compare i) = untold (compare-coded p (five p s z) i)
   execute-left w (Instr.Rotate i) = untold (rotate-coded p (five p s z) i)
   execute-left w (Instr.LoadStore i) = load-store-left i
+  execute-left w (Instr.Stack dd op rt ra) = stack-left op ra dd
   execute-left w (Instr.Branch i) = untold (branch-coded p (five p s z) i)
   execute-left w (Instr.Trap to ra rb tg) = untold (trap-coded p (five p s z) w to tg)
   execute-left w (Instr.System i) = untold (system-coded p (five p s z) i)

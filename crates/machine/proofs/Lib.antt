@@ -2,4 +2,5 @@
 pub mod Refusals
 pub mod Registers
 pub mod Quiet
+pub mod Frames
 pub mod Halts

@@ -10,6 +10,7 @@ pub mod Compare
 pub mod Rotate
 pub mod After
 pub mod LoadStore
+pub mod Stack
 pub mod Branch
 pub mod Cache
 pub mod System

@@ -19,6 +19,7 @@ use Rattle.machine.specs.Logical.{logicalOf}
 use Rattle.machine.specs.Compare.{compareOf}
 use Rattle.machine.specs.Rotate.{rotateOf}
 use Rattle.machine.specs.LoadStore.{loadStoreOf}
+use Rattle.machine.specs.Stack.{stackOf}
 use Rattle.machine.specs.Branch.{branchOf}
 use Rattle.machine.specs.System.{trapOf, systemOf}
 use Rattle.machine.specs.Cache.{cacheOf}
@@ -34,6 +35,7 @@ executeOf p s m w (Instr.Logical i) = plain (logicalOf s i) m
 executeOf p s m w (Instr.Compare i) = plain (compareOf s i) m
 executeOf p s m w (Instr.Rotate i) = plain (rotateOf s i) m
 executeOf p s m w (Instr.LoadStore i) = loadStoreOf p s m i
+executeOf p s m w (Instr.Stack dd op rt ra) = stackOf p s m op ra dd
 executeOf p s m w (Instr.Branch i) = plain (branchOf s i) m
 executeOf p s m w (Instr.Trap to ra rb tg) = plain (trapOf p s w to tg) m
 executeOf p s m w (Instr.System i) = plain (systemOf p s i) m

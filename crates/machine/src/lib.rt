@@ -10,6 +10,7 @@ pub mod logical; // logical.rt: and, or, xor, EXTS, cntlzw
 pub mod compare; // compare.rt: CR0 by an order
 pub mod rotate; // rotate.rt: rotates under a mask, shifts
 pub mod load_store; // load_store.rt: loads and stores
+pub mod stack; // stack.rt: stack frames
 pub mod branch; // branch.rt: branches
 pub mod cache; // cache.rt: dcbz
 pub mod system; // system.rt: traps, special registers, rfi

@@ -31,6 +31,7 @@ impl State {
             Instr::Compare(i) => self.compare(i),
             Instr::Rotate(i) => self.rotate(i),
             Instr::LoadStore(i) => self.load_store(profile, mem, i),
+            Instr::Stack { op, rt: _, ra, dd } => self.stack(profile, mem, op, ra, dd),
             Instr::Branch(i) => self.branch(i),
             Instr::Trap {
                 to,

@@ -1,9 +1,11 @@
-// The step that marks a reach past its memory: a loop that ends at a halt ends there too, and of the other steps only dcbz and
-// doublewords pay for the question.
+// The step that marks a reach past its memory: a loop that ends at a halt ends there too, and of the other steps only dcbz,
+// doublewords and stack frames pay for the question.
 ghost use mathlib.Core.Path.{_≡_};
 ghost use Rattle.insn.specs.Read.{decodeOn};
 ghost use Rattle.machine.specs.LoadStore.{offsetEa, loadedState, storedState, loadStoreOf};
 ghost use Rattle.machine.specs.Cache.{cacheOf};
+ghost use Rattle.machine.specs.Stack.{frameEa, doublewords, stackOf, frameMissed, missedPast};
+ghost use Rattle.machine.specs.State.{gprOf};
 ghost use Rattle.machine.specs.Step.{executeOf, decodedOf, runningOf, awakeOf, highestOf, interruptibleOf, countedOf, stepOf};
 ghost use Rattle.memory.specs.Access.{accessOf, reachesPast};
 ghost use Rattle.marked.specs.Mark.{loadReaches, markedIf, markedOf};
@@ -13,8 +15,12 @@ use insn::instr::CacheOp;
 use insn::instr::Decoded;
 use insn::instr::Instr;
 use insn::instr::LoadStore;
+use insn::instr::StackOp;
 use insn::profile::Profile;
 use insn::read::read;
+use machine::stack::Missed;
+use machine::stack::doublewords;
+use machine::stack::frame_missed;
 use machine::state::State;
 use machine::step::Pending;
 use memory::access::Access;
@@ -156,6 +162,33 @@ fn cache_marked(
     mark(state.cache(profile, mem, op, ra, rb), past)
 }
 
+fn stack_reaches(state: State, len: usize, op: StackOp, ra: u8, dd: u16) -> bool
+    ensures { λ r. ⌜ r ≡ missedPast (frameMissed len op (gprOf state ra) (frameEa state ra dd) (doublewords op dd)) ⌝ }
+{
+    let sp = state.reg(ra);
+    let ea = state.frame_ea(ra, dd);
+    let missed = frame_missed(len, op, sp, ea, doublewords(op, dd));
+    match missed {
+        Missed::Nothing => false,
+        Missed::Unaligned(_) => false,
+        Missed::Outside(_) => true,
+    }
+}
+
+fn stack_marked(
+    profile: Profile,
+    state: State,
+    mem: &mut [u8],
+    op: StackOp,
+    ra: u8,
+    dd: u16,
+) -> State
+    ensures { λ r. ⌜ (r ≡ markedOf (stackOf profile state (now (mem .entry)) op ra dd)) × (now (mem .exit) ≡ stackOf profile state (now (mem .entry)) op ra dd .mem) ⌝ }
+{
+    let past = stack_reaches(state, mem.len(), op, ra, dd);
+    mark(state.stack(profile, mem, op, ra, dd), past)
+}
+
 fn execute_marked(profile: Profile, state: State, mem: &mut [u8], word: u32, i: Instr) -> State
     ensures { λ r. ⌜ (r ≡ markedOf (executeOf profile state (now (mem .entry)) word i)) × (now (mem .exit) ≡ executeOf profile state (now (mem .entry)) word i .mem) ⌝ }
 {
@@ -165,6 +198,7 @@ fn execute_marked(profile: Profile, state: State, mem: &mut [u8], word: u32, i: 
         Instr::Compare(i) => state.compare(i),
         Instr::Rotate(i) => state.rotate(i),
         Instr::LoadStore(i) => load_store_marked(profile, state, mem, i),
+        Instr::Stack { op, rt: _, ra, dd } => stack_marked(profile, state, mem, op, ra, dd),
         Instr::Branch(i) => state.branch(i),
         Instr::Trap {
             to,

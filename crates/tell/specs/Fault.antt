@@ -15,12 +15,16 @@ use Rattle.insn.specs.Read.{decodeOn}
 use Rattle.insn.specs.declared.instr.Instr.{Instr}
 use Rattle.insn.specs.declared.instr.Decoded.{Decoded}
 use Rattle.insn.specs.declared.instr.LoadStore.{LoadStore}
+use Rattle.insn.specs.declared.instr.StackOp.{StackOp}
 use Rattle.insn.specs.declared.instr.CacheOp.{CacheOp}
 use Rattle.insn.specs.Profile.{is42x}
 use Rattle.insn.specs.declared.profile.Profile.{Profile}
+use Rattle.machine.specs.State.{gprOf}
 use Rattle.machine.specs.LoadStore.{offsetEa, indexedEa}
+use Rattle.machine.specs.Stack.{frameEa, doublewords, storesOf, frameMissed}
 use Rattle.machine.specs.declared.state.State.{State}
 use Rattle.machine.specs.declared.interrupt.Cause.{Cause}
+use Rattle.machine.specs.declared.stack.Missed.{Missed}
 use Rattle.tell.specs.declared.fault.Raised.{Raised}
 
 -- an access at an address, by a store or not
@@ -37,6 +41,15 @@ loadStoreRaises s m (LoadStore.StoreIndexed w rs ra rb) = accessRaises (accessOf
 loadStoreRaises s m (LoadStore.LoadDouble u dt ra d) = accessRaises (accessOf (length m) (offsetEa s ra d) 8) (offsetEa s ra d) false
 loadStoreRaises s m (LoadStore.StoreDouble u ds ra d) = accessRaises (accessOf (length m) (offsetEa s ra d) 8) (offsetEa s ra d) true
 
+-- lsku and stsku: the first access that is not served (9.4.45, 9.4.89)
+abbrev pub missedRaises : Bool → Missed → Raised
+missedRaises store Missed.Nothing = Raised.Nothing
+missedRaises store (Missed.Unaligned a) = Raised.Raises (Cause.Alignment a store)
+missedRaises store (Missed.Outside a) = Raised.Raises (Cause.DataStorage a store)
+
+abbrev pub stackRaises : State → List ℕ → StackOp → ℕ → ℕ → Raised
+stackRaises s m op ra dd = missedRaises (storesOf op) (frameMissed (length m) op (gprOf s ra) (frameEa s ra dd) (doublewords op dd))
+
 abbrev pub cacheRaises : State → List ℕ → CacheOp → ℕ → ℕ → Raised
 cacheRaises s m CacheOp.Dcbf ra rb = Raised.Nothing
 cacheRaises s m CacheOp.Dcbi ra rb = Raised.Nothing
@@ -52,6 +65,7 @@ executeRaises p s m w (Instr.Logical i) = Raised.Nothing
 executeRaises p s m w (Instr.Compare i) = Raised.Nothing
 executeRaises p s m w (Instr.Rotate i) = Raised.Nothing
 executeRaises p s m w (Instr.LoadStore i) = loadStoreRaises s m i
+executeRaises p s m w (Instr.Stack dd op rt ra) = stackRaises s m op ra dd
 executeRaises p s m w (Instr.Branch i) = Raised.Nothing
 executeRaises p s m w (Instr.Trap to ra rb tg) = trapRaises p s w to tg
 executeRaises p s m w (Instr.System i) = Raised.Nothing

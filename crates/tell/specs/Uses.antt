@@ -1,4 +1,4 @@
--- What a step asks of the memory beside its fetch: nothing, or to read or write some bytes from an address on.
+-- What a step asks of the memory beside its fetch: nothing, to read or write some bytes from an address on, or to read or write a stack frame.
 use Prim.Native.Nat.{ℕ}
 use mathlib.Core.Bool.{Bool, true, false, not, _&&_}
 use mathlib.Core.List.{List}
@@ -13,9 +13,12 @@ use Rattle.insn.specs.Read.{decodeOn}
 use Rattle.insn.specs.declared.instr.Instr.{Instr}
 use Rattle.insn.specs.declared.instr.Decoded.{Decoded}
 use Rattle.insn.specs.declared.instr.LoadStore.{LoadStore}
+use Rattle.insn.specs.declared.instr.StackOp.{StackOp}
 use Rattle.insn.specs.declared.instr.CacheOp.{CacheOp}
 use Rattle.insn.specs.declared.profile.Profile.{Profile}
+use Rattle.machine.specs.State.{gprOf}
 use Rattle.machine.specs.LoadStore.{offsetEa, indexedEa}
+use Rattle.machine.specs.Stack.{frameEa, doublewords}
 use Rattle.machine.specs.Timer.{tickedOf, actsOf}
 use Rattle.machine.specs.Step.{highestOf}
 use Rattle.machine.specs.declared.state.State.{State}
@@ -30,6 +33,11 @@ loadStoreUse s (LoadStore.StoreIndexed w rs ra rb) = Use.Writes (indexedEa s ra 
 loadStoreUse s (LoadStore.LoadDouble u dt ra d) = Use.Reads (offsetEa s ra d) 8
 loadStoreUse s (LoadStore.StoreDouble u ds ra d) = Use.Writes (offsetEa s ra d) 8
 
+-- a frame by (RA), EA and the doublewords between its headers
+abbrev pub stackUse : State → StackOp → ℕ → ℕ → Use
+stackUse s StackOp.Lsku ra dd = Use.Pops (gprOf s ra) (frameEa s ra dd) (doublewords StackOp.Lsku dd)
+stackUse s StackOp.Stsku ra dd = Use.Pushes (gprOf s ra) (frameEa s ra dd) (doublewords StackOp.Stsku dd)
+
 abbrev pub cacheUse : State → CacheOp → ℕ → ℕ → Use
 cacheUse s CacheOp.Dcbf ra rb = Use.Idle
 cacheUse s CacheOp.Dcbi ra rb = Use.Idle
@@ -42,6 +50,7 @@ executeUse s (Instr.Logical i) = Use.Idle
 executeUse s (Instr.Compare i) = Use.Idle
 executeUse s (Instr.Rotate i) = Use.Idle
 executeUse s (Instr.LoadStore i) = loadStoreUse s i
+executeUse s (Instr.Stack dd op rt ra) = stackUse s op ra dd
 executeUse s (Instr.Branch i) = Use.Idle
 executeUse s (Instr.Trap to ra rb tg) = Use.Idle
 executeUse s (Instr.System i) = Use.Idle

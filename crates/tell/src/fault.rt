@@ -1,15 +1,20 @@
 // The synchronous interrupt that an instruction raises, if it raises one.
 ghost use mathlib.Core.Path.{_≡_};
 ghost use Rattle.insn.specs.Read.{decodeOn};
-ghost use Rattle.tell.specs.Fault.{accessRaises, loadStoreRaises, cacheRaises, trapRaises, executeRaises, decodedRaises, raisedOf};
+ghost use Rattle.machine.specs.Stack.{storesOf};
+ghost use Rattle.tell.specs.Fault.{accessRaises, loadStoreRaises, missedRaises, stackRaises, cacheRaises, trapRaises, executeRaises, decodedRaises, raisedOf};
 use insn::instr::CacheOp;
 use insn::instr::Decoded;
 use insn::instr::Instr;
 use insn::instr::LoadStore;
+use insn::instr::StackOp;
 use insn::profile::Profile;
 use insn::profile::is_42x;
 use insn::read::read;
 use machine::interrupt::Cause;
+use machine::stack::Missed;
+use machine::stack::doublewords;
+use machine::stack::frame_missed;
 use machine::state::State;
 use memory::access::Access;
 use memory::access::access_at;
@@ -98,6 +103,34 @@ fn load_store_raises(state: State, mem: &[u8], i: LoadStore) -> Raised
     }
 }
 
+fn stores(op: StackOp) -> bool
+    ensures { λ r. ⌜ r ≡ storesOf op ⌝ }
+{
+    match op {
+        StackOp::Lsku => false,
+        StackOp::Stsku => true,
+    }
+}
+
+fn missed_raises(missed: Missed, store: bool) -> Raised
+    ensures { λ r. ⌜ r ≡ missedRaises store missed ⌝ }
+{
+    match missed {
+        Missed::Nothing => Raised::Nothing,
+        Missed::Unaligned(address) => Raised::Raises(Cause::Alignment { address, store }),
+        Missed::Outside(address) => Raised::Raises(Cause::DataStorage { address, store }),
+    }
+}
+
+fn stack_raises(state: State, mem: &[u8], op: StackOp, ra: u8, dd: u16) -> Raised
+    ensures { λ r. ⌜ r ≡ stackRaises state (now (mem .entry)) op ra dd ⌝ }
+{
+    let sp = state.reg(ra);
+    let ea = state.frame_ea(ra, dd);
+    let missed = frame_missed(mem.len(), op, sp, ea, doublewords(op, dd));
+    missed_raises(missed, stores(op))
+}
+
 fn cache_raises(state: State, mem: &[u8], op: CacheOp, ra: u8, rb: u8) -> Raised
     ensures { λ r. ⌜ r ≡ cacheRaises state (now (mem .entry)) op ra rb ⌝ }
 {
@@ -133,6 +166,7 @@ fn execute_raises(profile: Profile, state: State, mem: &[u8], word: u32, i: Inst
         Instr::Compare(_) => Raised::Nothing,
         Instr::Rotate(_) => Raised::Nothing,
         Instr::LoadStore(i) => load_store_raises(state, mem, i),
+        Instr::Stack { op, rt: _, ra, dd } => stack_raises(state, mem, op, ra, dd),
         Instr::Branch(_) => Raised::Nothing,
         Instr::Trap {
             to,

@@ -3,13 +3,15 @@ ghost use mathlib.Core.Path.{_≡_};
 ghost use Rattle.word.specs.Width.{bytes};
 ghost use Rattle.memory.specs.Load.{fetchOf};
 ghost use Rattle.insn.specs.Read.{decodeOn};
-ghost use Rattle.tell.specs.Uses.{loadStoreUse, cacheUse, executeUse, decodedUse, fetchedUse, free, executes, useOf};
+ghost use Rattle.tell.specs.Uses.{loadStoreUse, stackUse, cacheUse, executeUse, decodedUse, fetchedUse, free, executes, useOf};
 use insn::instr::CacheOp;
 use insn::instr::Decoded;
 use insn::instr::Instr;
 use insn::instr::LoadStore;
+use insn::instr::StackOp;
 use insn::profile::Profile;
 use insn::read::read;
+use machine::stack::doublewords;
 use machine::state::State;
 use machine::step::Pending;
 use memory::load::Loaded;
@@ -19,11 +21,13 @@ use word::bits::bit_at;
 use word::width::Width;
 use word::width::size;
 
-// Nothing, or to read or write some bytes from an address on.
+// Nothing, or to read or write some bytes from an address on, or a stack frame with n doublewords between its headers.
 pub enum Use {
     Idle,
     Reads { at: u32, bytes: u8 },
     Writes { at: u32, bytes: u8 },
+    Pops { sp: u32, ea: u32, n: u16 },
+    Pushes { sp: u32, ea: u32, n: u16 },
 }
 
 // A width's bytes, in the type of an access's.
@@ -96,6 +100,18 @@ fn load_store_use(state: State, i: LoadStore) -> Use
     }
 }
 
+fn stack_use(state: State, op: StackOp, ra: u8, dd: u16) -> Use
+    ensures { λ r. ⌜ r ≡ stackUse state op ra dd ⌝ }
+{
+    let sp = state.reg(ra);
+    let ea = state.frame_ea(ra, dd);
+    let n = doublewords(op, dd);
+    match op {
+        StackOp::Lsku => Use::Pops { sp, ea, n },
+        StackOp::Stsku => Use::Pushes { sp, ea, n },
+    }
+}
+
 fn cache_use(state: State, op: CacheOp, ra: u8, rb: u8) -> Use
     ensures { λ r. ⌜ r ≡ cacheUse state op ra rb ⌝ }
 {
@@ -119,6 +135,7 @@ fn execute_use(state: State, i: Instr) -> Use
         Instr::Compare(_) => Use::Idle,
         Instr::Rotate(_) => Use::Idle,
         Instr::LoadStore(i) => load_store_use(state, i),
+        Instr::Stack { op, rt: _, ra, dd } => stack_use(state, op, ra, dd),
         Instr::Branch(_) => Use::Idle,
         Instr::Trap {
             to: _,

@@ -1,4 +1,4 @@
--- `abi_tell::told::pack` meets its contract: no access, one that reads, or one that writes. Assumes nothing.
+-- `abi_tell::told::pack` meets its contract: no access, one that reads or writes, or a frame. Assumes nothing.
 use borrow.Author.Needs.{needs}
 use Rattle.abi_tell.proofs.told.pack.Statement.{statement}
 use Rattle.abi_tell.proofs.told.pack.Tie as tie
@@ -20,5 +20,22 @@ pack-spec =
     (λ c. search needs)
     (λ c. search needs)
     (λ c. search needs)
+    (λ c. search needs)
+    (λ c. search needs)
+    (λ c. search needs)
+    (λ c. search needs)
+    (λ c. search needs)
+    (λ c. search needs)
+    (λ c. search needs)
+    (λ c. search needs)
+    (λ c. search needs)
+    (λ c. search needs)
+    (λ c. search needs)
+    (λ c. search needs)
+    (λ c. search needs)
+    (λ c. search needs)
+    (λ c. search needs)
     (λ c. rw (c .before .access .given .1))
-    (λ c. rw (c .before .access2 .given .1)))
+    (λ c. rw (c .before .access2 .given .1))
+    (λ c. rw (c .before .access3 .given .1))
+    (λ c. rw (c .before .access4 .given .1)))
