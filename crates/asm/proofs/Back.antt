@@ -16,10 +16,10 @@ use Rattle.expr.specs.Evaluate.{negated, digitOf, digitsValue, evalE}
 use Rattle.expr.specs.declared.Value.{Value}
 use Rattle.expr.proofs.Cases.{split-lt, split-eq}
 use Rattle.expr.proofs.Signs.{neg-pos}
-use Rattle.syntax.specs.Syntax.{Range, signed, unsigned, target, Item, reg, zreg, num, Piece, letter, gpr, gprOr0, number, letters, commas, spelt, written, itemOf, itemsOf, shapeOf}
+use Rattle.syntax.specs.Syntax.{Range, signed, unsigned, target, frame, Item, reg, zreg, num, Piece, letter, gpr, gprOr0, number, letters, commas, spelt, written, itemOf, itemsOf, shapeOf}
 use Rattle.syntax.specs.Text.{bytes}
 use Rattle.syntax.specs.Line.{Part, byte, register, zero as lone, value, textOf, texts, Fits, fits-lit, fits-reg, fits-zreg, fits-zero, fits-num, Line, line-end, line-more}
-use Rattle.syntax.specs.Worth.{signedCode, unsignedCode, targetCode, codeOf, registerField, fieldOf, kept, fieldsFrom, codes, allCodes}
+use Rattle.syntax.specs.Worth.{signedCode, unsignedCode, targetCode, frameCode, codeOf, registerField, fieldOf, kept, fieldsFrom, codes, allCodes}
 use Rattle.syntax.specs.LineOf.{decimal, signedText, numberText, registerText, baseText, pieceText, pieceTexts, lineOf}
 use Rattle.syntax.specs.Rows.{samples, samplesA, samplesB, samplesC, samplesD, samplesE, samplesL, samplesM, samplesN, samplesO, samplesR, samplesS, samplesT, samplesW, samplesX, rowOf}
 use Rattle.syntax.specs.Inside.{wideItem, wide}
@@ -141,7 +141,7 @@ unfolding signedCode
 code-minus h n m l k e = rw (lt-ltb m h (omega arith)) (ap Field.Code (omega arith))
 
 number-read : (r : Range) (n : ℕ) → n < sizeOf r → sizeOf r ≤ 2 ^ 24 → Operand (num r) (numberText r n) n
-unfolding unsignedCode targetCode
+unfolding unsignedCode targetCode frameCode
 number-read (unsigned m) n l k = by-tree _ _ _ _ (plus-tree n (omega arith)) (rw (lt-ltb n m l))
 number-read (signed h) n l k =
     split-lt n h
@@ -151,6 +151,10 @@ number-read (target h) n l k =
     split-lt n h
     (λ u. rw (text-plus 4 h n u) (by-tree _ _ _ _ (plus-tree (4 * n) (omega arith)) (rw (eq-eqb (4 * n % 4) 0 (omega arith)) (code-plus h n (4 * n / 4) u (omega arith)))))
     (λ u. let m : ℕ = 4 * (2 * h - n) in rw (text-minus 4 h n u) (by-tree _ _ _ _ (minus-tree m (omega arith) (omega arith)) (rw (eq-eqb ((m - 1) % 4) 3 (omega arith)) (code-minus h n ((m - 1) / 4) u l (omega arith)))))
+number-read (frame h) n l k =
+    split-lt n h
+    (λ u. rw (text-plus 8 h n u) (by-tree _ _ _ _ (plus-tree (8 * n) (omega arith)) (code-plus h n (8 * n / 8) u (omega arith))))
+    (λ u. let m : ℕ = 8 * (2 * h - n) in rw (text-minus 8 h n u) (by-tree _ _ _ _ (minus-tree m (omega arith) (omega arith)) (code-minus h n ((m - 1) / 8) u l (omega arith))))
 
 register-read : (x : Item) (n : ℕ) → n < 32 → ((d : ℕ) (ds : List ℕ) → allDigits false (d ∷ ds) ≡ true → Fits x (register d ds)) → ((at : ℕ) (p : Part) → fieldOf x at p ≡ registerField p) → Operand x (registerText n) n
 unfolding textOf
@@ -215,6 +219,7 @@ piece-length (gprOr0 n) = split-eq n 0 (λ e. rw e (omega arith)) (λ e. rw (ne-
 piece-length (number (signed h) n) = signed-length 1 h n
 piece-length (number (unsigned m) n) = omega (arith, decimal-length 8 n)
 piece-length (number (target h) n) = signed-length 4 h n
+piece-length (number (frame h) n) = signed-length 8 h n
 
 texts-length : (ps : List Piece) → length (pieceTexts ps) ≤ wide (itemsOf ps)
 unfolding pieceTexts wide itemsOf
@@ -241,8 +246,8 @@ unfolding slim samples samplesA samplesB samplesC samplesD samplesE samplesL sam
 slim-samples c =
     let s = slim-pick in
     s (eqb c 97) samplesA _ refl (s (eqb c 98) samplesB _ refl (s (eqb c 99) samplesC _ refl (s (eqb c 100) samplesD _ refl (s (eqb c 101) samplesE _ refl
-    (s (eqb c 108) samplesL _ refl (s (eqb c 109) (samplesM Profile.Ppe42x) _ refl (s (eqb c 110) samplesN _ refl (s (eqb c 111) samplesO _ refl (s (eqb c 114) (samplesR Profile.Ppe42x) _ refl
-    (s (eqb c 115) samplesS _ refl (s (eqb c 116) samplesT _ refl (s (eqb c 119) samplesW _ refl (s (eqb c 120) samplesX [] refl refl)))))))))))))
+    (s (eqb c 108) (samplesL Profile.Ppe42x) _ refl (s (eqb c 109) (samplesM Profile.Ppe42x) _ refl (s (eqb c 110) samplesN _ refl (s (eqb c 111) samplesO _ refl (s (eqb c 114) (samplesR Profile.Ppe42x) _ refl
+    (s (eqb c 115) (samplesS Profile.Ppe42x) _ refl (s (eqb c 116) samplesT _ refl (s (eqb c 119) samplesW _ refl (s (eqb c 120) samplesX [] refl refl)))))))))))))
 
 pub line-length : (i : Instr) → length (lineOf i) ≤ 64
 unfolding lineOf shapeOf

@@ -12,9 +12,9 @@ use Rattle.expr.specs.Grammar.{Expr, Prod, Fac, textE, textP, textF, signByte, 
 use Rattle.expr.specs.Evaluate.{inRange, negated, both, joinZ, joined, multiplied, digitsValue, evalE, evalP, evalF}
 use Rattle.expr.specs.declared.Value.{Value}
 use Rattle.insn.specs.declared.profile.Profile.{Profile}
-use Rattle.syntax.specs.Syntax.{Range, signed, unsigned, target, Item, lit, reg, zreg, num}
+use Rattle.syntax.specs.Syntax.{Range, signed, unsigned, target, frame, Item, lit, reg, zreg, num}
 use Rattle.syntax.specs.Line.{Part, byte, register, zero as lone, value, textOf, texts, Has}
-use Rattle.syntax.specs.Worth.{below, signedCode, unsignedCode, targetCode, codeOf, registerField, numberField, fieldOf, kept, fieldsFrom, First, none, at, orElse, firstOff}
+use Rattle.syntax.specs.Worth.{below, signedCode, unsignedCode, targetCode, frameCode, codeOf, registerField, numberField, fieldOf, kept, fieldsFrom, First, none, at, orElse, firstOff}
 use Rattle.asm.specs.Answer.{Answer, accepted, stopped as answer-stopped, outside, invalid, fieldsOf}
 use Rattle.syntax.specs.declared.field.Field.{Field}
 use Rattle.asm.specs.declared.assemble.Assembled.{Assembled}
@@ -98,7 +98,7 @@ no-signed true h v k e f = f (signed-off h v k e)
 no-signed false h v k e f = no-unfit k e
 
 code-off : (r : Range) (v : Value) (k : ℕ) → codeOf r v ≡ Field.Off k → v ≡ Value.Off k
-unfolding unsignedCode targetCode
+unfolding unsignedCode targetCode frameCode
 code-off (signed h) v k e = signed-off h v k e
 code-off (unsigned m) (Value.Plus n) k e = no-pick (ltb n m) n k e
 code-off (unsigned m) (Value.Minus n) k e = no-unfit k e
@@ -106,6 +106,9 @@ code-off (unsigned m) (Value.Off j) k e = field-same j k e
 code-off (target h) (Value.Plus n) k e = no-signed (eqb (n % 4) 0) h (Value.Plus (n / 4)) k e (λ q. no-plus (n / 4) k q)
 code-off (target h) (Value.Minus n) k e = no-signed (eqb (n % 4) 3) h (Value.Minus (n / 4)) k e (λ q. no-minus (n / 4) k q)
 code-off (target h) (Value.Off j) k e = field-same j k e
+code-off (frame h) (Value.Plus n) k e = no-plus (n / 8) k (signed-off h (Value.Plus (n / 8)) k e)
+code-off (frame h) (Value.Minus n) k e = no-minus (n / 8) k (signed-off h (Value.Minus (n / 8)) k e)
+code-off (frame h) (Value.Off j) k e = field-same j k e
 
 register-off : {C : Type 0} (p : Part) (k : ℕ) → registerField p ≡ Field.Off k → C
 register-off (register d ds) k e = no-pick (ltb (digitsValue false 0 (d ∷ ds)) 32) (digitsValue false 0 (d ∷ ds)) k e

@@ -11,9 +11,9 @@ use lib.ListN.{length}
 use Rattle.expr.specs.Grammar.{Expr, pick}
 use Rattle.expr.specs.Evaluate.{evalE, digitsValue}
 use Rattle.expr.specs.declared.Value.{Value}
-use Rattle.syntax.specs.Syntax.{Range, signed, unsigned, target, Item, lit, reg, zreg, num}
+use Rattle.syntax.specs.Syntax.{Range, signed, unsigned, target, frame, Item, lit, reg, zreg, num}
 use Rattle.syntax.specs.Line.{Part, byte, register, zero as lone, value, textOf, Line, line-end, line-more, Fits, fits-lit, fits-reg, fits-zreg, fits-zero, fits-num}
-use Rattle.syntax.specs.Worth.{below, signedCode, unsignedCode, targetCode, codeOf, registerField, numberField, fieldOf, kept, fieldsFrom, allCodes, First, none, at, firstOff}
+use Rattle.syntax.specs.Worth.{below, signedCode, unsignedCode, targetCode, frameCode, codeOf, registerField, numberField, fieldOf, kept, fieldsFrom, allCodes, First, none, at, firstOff}
 use Rattle.syntax.specs.Inside.{noOperands, pushed, pushOn, gathered, operandCount}
 use Rattle.asm.specs.Inside.{afterOf, checkedOf}
 use Rattle.syntax.specs.declared.field.Field.{Field}
@@ -175,6 +175,12 @@ target-code h (Value.Plus v) n e = halved (eqb (v % 4) 0) _ n (n < 2 * h) e (λ 
 target-code h (Value.Minus v) n e = halved (eqb (v % 4) 3) _ n (n < 2 * h) e (λ q. signed-code h _ n q)
 target-code h (Value.Off k) n e = off-code k n e
 
+frame-code : (h : ℕ) (v : Value) (n : ℕ) → frameCode h v ≡ Field.Code n → n < 2 * h
+unfolding frameCode
+frame-code h (Value.Plus v) n e = signed-code h _ n e
+frame-code h (Value.Minus v) n e = signed-code h _ n e
+frame-code h (Value.Off k) n e = off-code k n e
+
 unsigned-code : (m : ℕ) (v : Value) (n : ℕ) → unsignedCode m v ≡ Field.Code n → n < m
 unfolding unsignedCode
 unsigned-code m (Value.Plus v) n e = below-code m v n e
@@ -185,6 +191,7 @@ code-size : (r : Range) (v : Value) (n : ℕ) → codeOf r v ≡ Field.Code n �
 code-size (signed h) v n e = signed-code h v n e
 code-size (unsigned m) v n e = unsigned-code m v n e
 code-size (target h) v n e = target-code h v n e
+code-size (frame h) v n e = frame-code h v n e
 
 register-size : (p : Part) (n : ℕ) → registerField p ≡ Field.Code n → n < 32
 register-size (register d ds) n e = below-code 32 (digitsValue false 0 (d ∷ ds)) n e

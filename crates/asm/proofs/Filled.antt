@@ -25,7 +25,7 @@ use Rattle.insn.specs.declared.instr.System.{System}
 use Rattle.insn.specs.declared.instr.ArithImmOp.{ArithImmOp}
 use Rattle.insn.specs.declared.instr.SprOp.{SprOp}
 use Rattle.insn.specs.declared.instr.Sign.{Sign}
-use Rattle.syntax.specs.Syntax.{Range, signed, unsigned, target, Item, lit, reg, zreg, num, Piece, letter, gpr, gprOr0, number, letters, spelt, written, plain, itemsOf, shapeOf}
+use Rattle.syntax.specs.Syntax.{Range, signed, unsigned, target, frame, Item, lit, reg, zreg, num, Piece, letter, gpr, gprOr0, number, letters, spelt, written, plain, itemsOf, shapeOf}
 use Rattle.syntax.specs.Text.{bytes}
 use Rattle.syntax.specs.Worth.{codes, allCodes}
 use Rattle.syntax.specs.Rows.{sampleOf}
@@ -49,6 +49,7 @@ abbrev pub sizeOf : Range → ℕ
 sizeOf (signed h) = 2 * h
 sizeOf (unsigned m) = m
 sizeOf (target h) = 2 * h
+sizeOf (frame h) = 2 * h
 
 -- what the operands hold is within their fields, and the fields are no wider than 24 bits
 unfoldable pub Fit : List Piece → Type 0
@@ -104,6 +105,9 @@ sixteen-32 n h = mod-eq-of-lt (omega arith)
 sixteen-1024 : (n : ℕ) → n < 1024 → n % 0x1_0000 ≡ n
 sixteen-1024 n h = mod-eq-of-lt (omega arith)
 
+sixteen-13 : (n : ℕ) → n < 0x2000 → n % 0x1_0000 ≡ n
+sixteen-13 n h = mod-eq-of-lt (omega arith)
+
 sixteen-14 : (n : ℕ) → n < 0x4000 → n % 0x1_0000 ≡ n
 sixteen-14 n h = mod-eq-of-lt (omega arith)
 
@@ -118,7 +122,7 @@ bit-is (suc (suc n)) h = let z : ⊥ = omega arith in absurd z
 zero-is : (n : ℕ) → eqb n 0 ≡ true → 0 ≡ n
 zero-is n h = sym (eqb-true n 0 h)
 
-ruleset uncut = (eight-4, eight-32, eight-64, sixteen-32, sixteen-1024, sixteen-14, sixteen-16, bit-is)
+ruleset uncut = (eight-4, eight-32, eight-64, sixteen-32, sixteen-1024, sixteen-13, sixteen-14, sixteen-16, bit-is)
 
 ruleset orders = (reg-lt, spr-lt, to-lt, ltb-true, and-left, and-right)
 
@@ -164,6 +168,7 @@ good (Instr.LoadStore (LoadStore.LoadDouble true dt ra d)) v = (fit _ _ _ (searc
 good (Instr.LoadStore (LoadStore.LoadDouble false dt ra d)) v = (fit _ _ _ (search within), λ p. simp codes-are (search back))
 good (Instr.LoadStore (LoadStore.StoreDouble true ds ra d)) v = (fit _ _ _ (search within), λ p. simp codes-are (search back))
 good (Instr.LoadStore (LoadStore.StoreDouble false ds ra d)) v = (fit _ _ _ (search within), λ p. simp codes-are (search back))
+good (Instr.Stack dd op rt ra) v = (fit _ _ _ (search within), λ p. simp codes-are (search back))
 good (Instr.Branch (Branch.Always aa lk li)) v = (fit _ _ _ (search within), λ p. simp codes-are)
 good (Instr.Branch (Branch.Conditional bo bi bd aa lk)) v = (fit _ _ _ (search within), λ p. simp codes-are (search back))
 good (Instr.Branch (Branch.Register op bo bi bh lk)) v = (fit _ _ _ (search within), λ p. simp codes-are (search back))
@@ -211,6 +216,7 @@ fill-sample (Instr.LoadStore (LoadStore.Store width update rs ra d)) o = refl
 fill-sample (Instr.LoadStore (LoadStore.StoreIndexed width rs ra rb)) o = refl
 fill-sample (Instr.LoadStore (LoadStore.LoadDouble update dt ra d)) o = refl
 fill-sample (Instr.LoadStore (LoadStore.StoreDouble update ds ra d)) o = refl
+fill-sample (Instr.Stack dd op rt ra) o = refl
 fill-sample (Instr.Branch (Branch.Always aa lk li)) o = refl
 fill-sample (Instr.Branch (Branch.Conditional bo bi bd aa lk)) o = refl
 fill-sample (Instr.Branch (Branch.Register op bo bi bh lk)) o = refl
@@ -232,6 +238,7 @@ fill-plain (Instr.Logical x) o = refl
 fill-plain (Instr.Compare x) o = refl
 fill-plain (Instr.Rotate x) o = refl
 fill-plain (Instr.LoadStore x) o = refl
+fill-plain (Instr.Stack dd op rt ra) o = refl
 fill-plain (Instr.Branch (Branch.Always aa lk li)) o = refl
 fill-plain (Instr.Branch (Branch.Conditional bo bi bd aa lk)) o = refl
 fill-plain (Instr.Branch (Branch.Register op bo bi bh lk)) o = refl
@@ -310,6 +317,7 @@ fill-codes (Instr.LoadStore (LoadStore.LoadDouble true dt ra d)) = bounded _ _ _
 fill-codes (Instr.LoadStore (LoadStore.LoadDouble false dt ra d)) = bounded _ _ _ _ (λ a ua b ub c uc. simp codes-are (search uncut))
 fill-codes (Instr.LoadStore (LoadStore.StoreDouble true ds ra d)) = bounded _ _ _ _ (λ a ua b ub c uc. simp codes-are (search uncut))
 fill-codes (Instr.LoadStore (LoadStore.StoreDouble false ds ra d)) = bounded _ _ _ _ (λ a ua b ub c uc. simp codes-are (search uncut))
+fill-codes (Instr.Stack dd op rt ra) = bounded _ _ _ _ (λ a ua b ub c uc. simp codes-are (search uncut))
 fill-codes (Instr.Branch (Branch.Always aa lk li)) = bounded _ _ _ _ (λ a ua. simp codes-are (search uncut))
 fill-codes (Instr.Branch (Branch.Conditional bo bi bd aa lk)) = bounded _ _ _ _ (λ a ua b ub c uc. simp codes-are (search uncut))
 fill-codes (Instr.Branch (Branch.Register op bo bi bh lk)) = bounded _ _ _ _ (λ a ua b ub. simp codes-are (search uncut))

@@ -81,6 +81,7 @@ line-printed (Instr.LoadStore (LoadStore.Store width update rs ra d)) = named _ 
 line-printed (Instr.LoadStore (LoadStore.StoreIndexed width rs ra rb)) = named _ _ _ _ refl
 line-printed (Instr.LoadStore (LoadStore.LoadDouble update dt ra d)) = named _ _ _ _ (displaced update dt d ra)
 line-printed (Instr.LoadStore (LoadStore.StoreDouble update ds ra d)) = named _ _ _ _ (displaced update ds d ra)
+line-printed (Instr.Stack dd op rt ra) = named _ _ _ _ refl
 line-printed (Instr.Branch (Branch.Always aa lk li)) = named _ _ _ _ refl
 line-printed (Instr.Branch (Branch.Conditional bo bi bd aa lk)) = named _ _ _ _ refl
 line-printed (Instr.Branch (Branch.Register op bo bi bh lk)) = named _ _ _ _ refl

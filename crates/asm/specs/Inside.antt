@@ -114,6 +114,7 @@ filled (Instr.Logical x) o = Instr.Logical (filledLogical x o)
 filled (Instr.Compare x) o = Instr.Compare (filledCompare x o)
 filled (Instr.Rotate x) o = Instr.Rotate (filledRotate x o)
 filled (Instr.LoadStore x) o = Instr.LoadStore (filledLoadStore x o)
+filled (Instr.Stack dd op rt ra) o = Instr.Stack (sixteenOf (o .b)) op (eightOf (o .c)) (eightOf (o .a))
 filled (Instr.Branch x) o = Instr.Branch (filledBranch x o)
 filled (Instr.Trap to ra rb tg) o = Instr.Trap (eightOf (o .c)) (eightOf (o .b)) (eightOf (o .a)) tg
 filled (Instr.System x) o = Instr.System (filledSystem x o)

@@ -39,6 +39,7 @@ queueOf (Instr.LoadStore (LoadStore.Store width update rs ra d)) = queued rs d r
 queueOf (Instr.LoadStore (LoadStore.StoreIndexed width rs ra rb)) = queued rs ra rb 0 0
 queueOf (Instr.LoadStore (LoadStore.LoadDouble update dt ra d)) = queued dt d ra 0 0
 queueOf (Instr.LoadStore (LoadStore.StoreDouble update ds ra d)) = queued ds d ra 0 0
+queueOf (Instr.Stack dd op rt ra) = queued rt dd ra 0 0
 queueOf (Instr.Branch (Branch.Always aa lk li)) = queued li 0 0 0 0
 queueOf (Instr.Branch (Branch.Conditional bo bi bd aa lk)) = queued bo bi bd 0 0
 queueOf (Instr.Branch (Branch.Register op bo bi bh lk)) = queued bo bi 0 0 0

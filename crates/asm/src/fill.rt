@@ -64,6 +64,12 @@ pub fn fill(i: Instr, o: Codes) -> Instr
         Instr::Compare(x) => Instr::Compare(compare(x, o)),
         Instr::Rotate(x) => Instr::Rotate(rotate(x, o)),
         Instr::LoadStore(x) => Instr::LoadStore(load_store(x, o)),
+        Instr::Stack { op, .. } => Instr::Stack {
+            op,
+            rt: eight(o.c),
+            ra: eight(o.a),
+            dd: sixteen(o.b),
+        },
         Instr::Branch(x) => Instr::Branch(branch(x, o)),
         Instr::Trap { tg, .. } => Instr::Trap {
             to: eight(o.c),

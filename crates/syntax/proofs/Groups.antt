@@ -48,22 +48,12 @@ ordered c (i ∷ is) = (headIs c (shapeOf i) && wellMade (shapeOf i)) && (apartF
 abbrev Ordered : ℕ → List Instr → Type 0
 Ordered c is = ordered c is ≡ true
 
-ordered-m : (p : Profile) → Ordered 109 (samplesM p)
-unfolding samplesM ordered headIs apartFrom differ wellMade apart isDigit shapeOf itemsOf spelt commas letters bytes
-ordered-m Profile.Ppe42 = refl
-ordered-m Profile.Ppe42x = refl
-
-ordered-r : (p : Profile) → Ordered 114 (samplesR p)
-unfolding samplesR ordered headIs apartFrom differ wellMade apart isDigit shapeOf itemsOf spelt commas letters bytes
-ordered-r Profile.Ppe42 = refl
-ordered-r Profile.Ppe42x = refl
-
 all-ordered : (p : Profile) (c : ℕ) → Ordered c (samples p c)
-unfolding samples samplesA samplesB samplesC samplesD samplesE samplesL samplesN samplesO samplesS samplesT samplesW samplesX ordered headIs apartFrom differ wellMade apart isDigit shapeOf itemsOf spelt commas letters bytes
+unfolding samples samplesA samplesB samplesC samplesD samplesE samplesL samplesM samplesN samplesO samplesR samplesS samplesT samplesW samplesX ordered headIs apartFrom differ wellMade apart isDigit shapeOf itemsOf spelt commas letters bytes
 all-ordered p c =
     at-letter Ordered c 97 samplesA _ refl (at-letter Ordered c 98 samplesB _ refl (at-letter Ordered c 99 samplesC _ refl (at-letter Ordered c 100 samplesD _ refl
-    (at-letter Ordered c 101 samplesE _ refl (at-letter Ordered c 108 samplesL _ refl (at-letter Ordered c 109 (samplesM p) _ (ordered-m p) (at-letter Ordered c 110 samplesN _ refl
-    (at-letter Ordered c 111 samplesO _ refl (at-letter Ordered c 114 (samplesR p) _ (ordered-r p) (at-letter Ordered c 115 samplesS _ refl (at-letter Ordered c 116 samplesT _ refl
+    (at-letter Ordered c 101 samplesE _ refl (at-letter Ordered c 108 (samplesL p) _ (elim p [ Profile.Ppe42 ↦ refl | Profile.Ppe42x ↦ refl ]) (at-letter Ordered c 109 (samplesM p) _ (elim p [ Profile.Ppe42 ↦ refl | Profile.Ppe42x ↦ refl ]) (at-letter Ordered c 110 samplesN _ refl
+    (at-letter Ordered c 111 samplesO _ refl (at-letter Ordered c 114 (samplesR p) _ (elim p [ Profile.Ppe42 ↦ refl | Profile.Ppe42x ↦ refl ]) (at-letter Ordered c 115 (samplesS p) _ (elim p [ Profile.Ppe42 ↦ refl | Profile.Ppe42x ↦ refl ]) (at-letter Ordered c 116 samplesT _ refl
     (at-letter Ordered c 119 samplesW _ refl (at-letter Ordered c 120 samplesX _ refl refl)))))))))))))
 
 ordered-parts : (c : ℕ) (i : Instr) (is : List Instr) → Ordered c (i ∷ is) → ((headIs c (shapeOf i) ≡ true) × (wellMade (shapeOf i) ≡ true)) × ((apartFrom i is ≡ true) × (ordered c is ≡ true))
@@ -105,22 +95,12 @@ allSpelled p (i ∷ is) = spelledOn p i && allSpelled p is
 abbrev AllSpelled : Profile → ℕ → List Instr → Type 0
 AllSpelled p c is = allSpelled p is ≡ true
 
-spelled-m : (p : Profile) → allSpelled p (samplesM p) ≡ true
-unfolding samplesM allSpelled
-spelled-m Profile.Ppe42 = refl
-spelled-m Profile.Ppe42x = refl
-
-spelled-r : (p : Profile) → allSpelled p (samplesR p) ≡ true
-unfolding samplesR allSpelled
-spelled-r Profile.Ppe42 = refl
-spelled-r Profile.Ppe42x = refl
-
 all-spelled : (p : Profile) (c : ℕ) → AllSpelled p c (samples p c)
-unfolding samples samplesA samplesB samplesC samplesD samplesE samplesL samplesN samplesO samplesS samplesT samplesW samplesX allSpelled
+unfolding samples samplesA samplesB samplesC samplesD samplesE samplesL samplesM samplesN samplesO samplesR samplesS samplesT samplesW samplesX allSpelled
 all-spelled p c =
     at-letter (AllSpelled p) c 97 samplesA _ refl (at-letter (AllSpelled p) c 98 samplesB _ refl (at-letter (AllSpelled p) c 99 samplesC _ refl (at-letter (AllSpelled p) c 100 samplesD _ refl
-    (at-letter (AllSpelled p) c 101 samplesE _ refl (at-letter (AllSpelled p) c 108 samplesL _ refl (at-letter (AllSpelled p) c 109 (samplesM p) _ (spelled-m p) (at-letter (AllSpelled p) c 110 samplesN _ refl
-    (at-letter (AllSpelled p) c 111 samplesO _ refl (at-letter (AllSpelled p) c 114 (samplesR p) _ (spelled-r p) (at-letter (AllSpelled p) c 115 samplesS _ refl (at-letter (AllSpelled p) c 116 samplesT _ refl
+    (at-letter (AllSpelled p) c 101 samplesE _ refl (at-letter (AllSpelled p) c 108 (samplesL p) _ (elim p [ Profile.Ppe42 ↦ refl | Profile.Ppe42x ↦ refl ]) (at-letter (AllSpelled p) c 109 (samplesM p) _ (elim p [ Profile.Ppe42 ↦ refl | Profile.Ppe42x ↦ refl ]) (at-letter (AllSpelled p) c 110 samplesN _ refl
+    (at-letter (AllSpelled p) c 111 samplesO _ refl (at-letter (AllSpelled p) c 114 (samplesR p) _ (elim p [ Profile.Ppe42 ↦ refl | Profile.Ppe42x ↦ refl ]) (at-letter (AllSpelled p) c 115 (samplesS p) _ (elim p [ Profile.Ppe42 ↦ refl | Profile.Ppe42x ↦ refl ]) (at-letter (AllSpelled p) c 116 samplesT _ refl
     (at-letter (AllSpelled p) c 119 samplesW _ refl (at-letter (AllSpelled p) c 120 samplesX _ refl refl)))))))))))))
 
 spelled-in : (p : Profile) (is : List Instr) (n : ℕ) (d : Instr) → allSpelled p is ≡ true → n < length is → spelledOn p (getD is n d) ≡ true

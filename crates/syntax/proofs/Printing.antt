@@ -11,7 +11,7 @@ use lib.Dec.{eqb, ltb}
 use mathlib.Core.Bool.{Bool, true, false, _||_}
 use Rattle.expr.specs.Grammar.{pick}
 use borrow.Author.Tests.{lt-ltb, le-ltb, ne-eqb}
-use Rattle.syntax.specs.Syntax.{signed, unsigned, target, Item, lit, reg, zreg, num}
+use Rattle.syntax.specs.Syntax.{signed, unsigned, target, frame, Item, lit, reg, zreg, num}
 use Rattle.syntax.specs.LineOf.{decimal, signedText, numberText}
 use Rattle.syntax.specs.Inside.{rangeOf, operandAt, itemAt, patternOf, nextOf, operandText, queueAfter, printed, wideItem, wide}
 use Rattle.syntax.specs.declared.queue.Queue.{Queue}
@@ -67,27 +67,28 @@ put-minus unit h n d l m o i g j p e q r =
     rw (le-ltb n h p, ← e) (then (45 ∷ []) (decimal 8 (unit * d)) l m o i g j q r)
 
 -- times the unit it fits a word
-pub times-fits : (u n : ℕ) → u ≤ 4 → n ≤ 0x100_0000 → u * n < 2 ^ 32
+pub times-fits : (u n : ℕ) → u ≤ 8 → n ≤ 0x100_0000 → u * n < 2 ^ 32
 times-fits u n p q = omega (arith, mul-le-mul-right n p)
 
 -- the text of a number by its letter, as the code asks
 pub number-text : (c n : ℕ)
-    → numberText (rangeOf c) n ≡ pick (eqb c 83) (signedText 1 0x8000 n) (pick (eqb c 85 || eqb c 78 || eqb c 76 || eqb c 67 || eqb c 80 || eqb c 69) (decimal 8 n) (pick (eqb c 74) (signedText 4 0x80_0000 n) (signedText 4 0x2000 n)))
+    → numberText (rangeOf c) n ≡ pick (eqb c 83) (signedText 1 0x8000 n) (pick (eqb c 85 || eqb c 78 || eqb c 76 || eqb c 67 || eqb c 80 || eqb c 69) (decimal 8 n) (pick (eqb c 70) (signedText 8 0x1000 n) (pick (eqb c 74) (signedText 4 0x80_0000 n) (signedText 4 0x2000 n))))
 unfolding rangeOf
-number-text c n = by (eqb c 83) (eqb c 85) (eqb c 78) (eqb c 76) (eqb c 67) (eqb c 80) (eqb c 69) (eqb c 74)
+number-text c n = by (eqb c 83) (eqb c 85) (eqb c 78) (eqb c 76) (eqb c 67) (eqb c 80) (eqb c 69) (eqb c 70) (eqb c 74)
   where
-    by : (s u f l b p e j : Bool)
-        → numberText (pick s (signed 0x8000) (pick u (unsigned 0x1_0000) (pick f (unsigned 32) (pick l (unsigned 64) (pick b (unsigned 4) (pick p (unsigned 1024) (pick e (unsigned 2) (pick j (target 0x80_0000) (target 0x2000))))))))) n
-        ≡ pick s (signedText 1 0x8000 n) (pick (u || f || l || b || p || e) (decimal 8 n) (pick j (signedText 4 0x80_0000 n) (signedText 4 0x2000 n)))
-    by true u f l b p e j = refl
-    by false true f l b p e j = refl
-    by false false true l b p e j = refl
-    by false false false true b p e j = refl
-    by false false false false true p e j = refl
-    by false false false false false true e j = refl
-    by false false false false false false true j = refl
-    by false false false false false false false true = refl
-    by false false false false false false false false = refl
+    by : (s u f l b p e d j : Bool)
+        → numberText (pick s (signed 0x8000) (pick u (unsigned 0x1_0000) (pick f (unsigned 32) (pick l (unsigned 64) (pick b (unsigned 4) (pick p (unsigned 1024) (pick e (unsigned 2) (pick d (frame 0x1000) (pick j (target 0x80_0000) (target 0x2000)))))))))) n
+        ≡ pick s (signedText 1 0x8000 n) (pick (u || f || l || b || p || e) (decimal 8 n) (pick d (signedText 8 0x1000 n) (pick j (signedText 4 0x80_0000 n) (signedText 4 0x2000 n))))
+    by true u f l b p e d j = refl
+    by false true f l b p e d j = refl
+    by false false true l b p e d j = refl
+    by false false false true b p e d j = refl
+    by false false false false true p e d j = refl
+    by false false false false false true e d j = refl
+    by false false false false false false true d j = refl
+    by false false false false false false false true j = refl
+    by false false false false false false false false true = refl
+    by false false false false false false false false false = refl
 
 -- an operand takes at most nine bytes
 pub signed-length : (unit h n : ℕ) → length (signedText unit h n) ≤ 9
@@ -109,6 +110,7 @@ text-length zreg n = by (eqb n 0)
 text-length (num (signed h)) n = signed-length 1 h n
 text-length (num (unsigned m)) n = omega (arith, decimal-length 8 n)
 text-length (num (target h)) n = signed-length 4 h n
+text-length (num (frame h)) n = signed-length 8 h n
 
 -- the letters of the operands
 pub operand-wide : (c : ℕ) → wideItem (operandAt c) ≡ 9

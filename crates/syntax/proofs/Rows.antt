@@ -14,26 +14,33 @@ use Rattle.expr.proofs.Cases.{split-lt, split-eq, and-true, or-true, clash}
 use Rattle.insn.specs.Valid.{validOf}
 use Rattle.insn.specs.Write.{wordOf}
 use Rattle.insn.specs.declared.instr.Instr.{Instr}
-use Rattle.syntax.specs.Syntax.{Range, signed, unsigned, target, Item, lit, reg, zreg, num, shapeOf, plain}
+use Rattle.syntax.specs.Syntax.{Range, signed, unsigned, target, frame, Item, lit, reg, zreg, num, shapeOf, plain}
 use Rattle.syntax.specs.Line.{Part, byte, Line, line-end, line-more, fits-lit, texts, textOf}
 use Rattle.syntax.specs.Take.{Result, all, stopped, takeLine, wellMade}
-use Rattle.syntax.specs.Inside.{patternAt, wordAt, eqItem, eqItems, eqRange, operandCount, wide, wellFormed, rowMatches, matchesFrom, matches, noOperands, gathered, spotWith, spotOf, larger, tried, rowsFrom}
+use Rattle.syntax.specs.Inside.{patternAt, wordAt, eqItem, eqItems, kindOf, limitOf, eqRange, operandCount, wide, wellFormed, rowMatches, matchesFrom, matches, noOperands, gathered, spotWith, spotOf, larger, tried, rowsFrom}
 use Rattle.syntax.specs.declared.line.Operands.{Operands}
 use Rattle.syntax.specs.declared.line.Spot.{Spot}
 use Rattle.syntax.specs.declared.table.Done.{Done}
 
 -- ---- rows that match
 
+-- a range from its kind and its limit
+abbrev rangeWith : ℕ → ℕ → Range
+rangeWith zero n = signed n
+rangeWith (suc zero) n = unsigned n
+rangeWith (suc (suc zero)) n = target n
+rangeWith (suc (suc (suc k))) n = frame n
+
+range-is : (r : Range) → rangeWith (kindOf r) (limitOf r) ≡ r
+range-is (signed h) = refl
+range-is (unsigned m) = refl
+range-is (target h) = refl
+range-is (frame h) = refl
+
 eq-range : (r q : Range) → eqRange r q ≡ true → r ≡ q
-eq-range (signed a) (signed b) e = ap signed (eqb-true a b e)
-eq-range (signed a) (unsigned b) e = clash e
-eq-range (signed a) (target b) e = clash e
-eq-range (unsigned a) (signed b) e = clash e
-eq-range (unsigned a) (unsigned b) e = ap unsigned (eqb-true a b e)
-eq-range (unsigned a) (target b) e = clash e
-eq-range (target a) (signed b) e = clash e
-eq-range (target a) (unsigned b) e = clash e
-eq-range (target a) (target b) e = ap target (eqb-true a b e)
+eq-range r q e =
+    let b : (eqb (kindOf r) (kindOf q) ≡ true) × (eqb (limitOf r) (limitOf q) ≡ true) = and-true _ _ e in
+    sym (range-is r) ∙ rw (eqb-true (kindOf r) (kindOf q) (b .0), eqb-true (limitOf r) (limitOf q) (b .1)) (range-is q)
 
 eq-item : (x y : Item) → eqItem x y ≡ true → x ≡ y
 eq-item (lit a) (lit b) e = ap lit (eqb-true a b e)

@@ -28,6 +28,7 @@ use Rattle.insn.specs.declared.instr.LogicOneOp.{LogicOneOp}
 use Rattle.insn.specs.declared.instr.RotateOp.{RotateOp}
 use Rattle.insn.specs.declared.instr.RotateDoubleOp.{RotateDoubleOp}
 use Rattle.insn.specs.declared.instr.ShiftOp.{ShiftOp}
+use Rattle.insn.specs.declared.instr.StackOp.{StackOp}
 use Rattle.insn.specs.declared.instr.BranchOp.{BranchOp}
 use Rattle.insn.specs.declared.instr.MoveOp.{MoveOp}
 use Rattle.insn.specs.declared.instr.SprOp.{SprOp}
@@ -35,7 +36,7 @@ use Rattle.insn.specs.declared.instr.CacheOp.{CacheOp}
 use Rattle.insn.specs.declared.instr.Sign.{Sign}
 use Rattle.expr.proofs.Cases.{clash}
 use Rattle.syntax.specs.Syntax.{Item, lit, Piece, letter, letters, commas, spelt, plain, spelledOn, itemsOf, shapeOf}
-use Rattle.syntax.specs.Rows.{sampleOf, samples, samplesA, samplesB, samplesC, samplesD, samplesE, samplesL, samplesM, samplesN, samplesO, samplesR, samplesS, samplesT, samplesW, samplesX, at, rowAfter, arithImmRow, arithRow, arithOneRow, multiplyRow, logicImmRow, logicRow, logicOneRow, compareImmRow, compareRow, rotateRow, rotateDoubleRow, shiftRow, loadRow, loadIndexedRow, storeRow, storeIndexedRow, branchRow, sprRow, moveRow, cacheRow, rowOf}
+use Rattle.syntax.specs.Rows.{oneFrame, sampleOf, samples, samplesA, samplesB, samplesC, samplesD, samplesE, samplesL, samplesM, samplesN, samplesO, samplesR, samplesS, samplesT, samplesW, samplesX, at, rowAfter, arithImmRow, arithRow, arithOneRow, multiplyRow, logicImmRow, logicRow, logicOneRow, compareImmRow, compareRow, rotateRow, rotateDoubleRow, shiftRow, loadRow, loadIndexedRow, storeRow, storeIndexedRow, stackRow, branchRow, sprRow, moveRow, cacheRow, rowOf}
 use Rattle.syntax.specs.declared.row.Row.{Row}
 
 -- the operands after a mnemonic
@@ -95,6 +96,7 @@ sampled (Instr.LoadStore (LoadStore.LoadDouble true dt ra d)) = (refl, refl, ali
 sampled (Instr.LoadStore (LoadStore.LoadDouble false dt ra d)) = (refl, refl, alike _ _ _ _ _ refl)
 sampled (Instr.LoadStore (LoadStore.StoreDouble true ds ra d)) = (refl, refl, alike _ _ _ _ _ refl)
 sampled (Instr.LoadStore (LoadStore.StoreDouble false ds ra d)) = (refl, refl, alike _ _ _ _ _ refl)
+sampled (Instr.Stack dd op rt ra) = (elim op [ StackOp.Lsku ↦ refl | StackOp.Stsku ↦ refl ], refl, alike _ _ _ _ _ refl)
 sampled (Instr.Branch (Branch.Always aa lk li)) = (refl, refl, alike _ _ _ _ _ refl)
 sampled (Instr.Branch (Branch.Conditional bo bi bd aa lk)) = (refl, refl, alike _ _ _ _ _ refl)
 sampled (Instr.Branch (Branch.Register op bo bi bh lk)) = (elim op [ BranchOp.Bclr ↦ refl | BranchOp.Bcctr ↦ refl ], refl, alike _ _ _ _ _ refl)
@@ -150,7 +152,7 @@ imm-in p ArithImmOp.Addi = (λ d. refl, lit< tt)
 imm-in p ArithImmOp.Addis = (λ d. refl, lit< tt)
 imm-in p ArithImmOp.Addic = (λ d. refl, lit< tt)
 imm-in p ArithImmOp.AddicDot = (λ d. refl, lit< tt)
-imm-in p ArithImmOp.Subfic = (λ d. refl, lit< tt)
+imm-in p ArithImmOp.Subfic = (λ d. refl, omega arith)
 
 sum-rows : (p : Profile) (op : ArithOp) → Four p (arithRow op) (λ (b c : Bool). Instr.Arithmetic (Arithmetic.Register op 0 0 0 b c))
 unfolding samples samplesA samplesS
@@ -235,9 +237,9 @@ load-rows p Width.Word = two _ refl
 
 load-indexed-in : (p : Profile) (op : Width) → In p (loadIndexedRow op) (Instr.LoadStore (LoadStore.LoadIndexed op 0 0 0))
 unfolding samples samplesL
-load-indexed-in p Width.Byte = (λ d. refl, lit< tt)
-load-indexed-in p Width.Half = (λ d. refl, lit< tt)
-load-indexed-in p Width.Word = (λ d. refl, lit< tt)
+load-indexed-in p Width.Byte = (λ d. refl, omega arith)
+load-indexed-in p Width.Half = (λ d. refl, omega arith)
+load-indexed-in p Width.Word = (λ d. refl, omega arith)
 
 store-rows : (p : Profile) (op : Width) → Two p (storeRow op) (λ (b : Bool). Instr.LoadStore (LoadStore.Store op b 0 2 0))
 unfolding samples samplesS
@@ -247,9 +249,14 @@ store-rows p Width.Word = two _ refl
 
 store-indexed-in : (p : Profile) (op : Width) → In p (storeIndexedRow op) (Instr.LoadStore (LoadStore.StoreIndexed op 0 0 0))
 unfolding samples samplesS
-store-indexed-in p Width.Byte = (λ d. refl, lit< tt)
-store-indexed-in p Width.Half = (λ d. refl, lit< tt)
-store-indexed-in p Width.Word = (λ d. refl, lit< tt)
+store-indexed-in p Width.Byte = (λ d. refl, omega arith)
+store-indexed-in p Width.Half = (λ d. refl, omega arith)
+store-indexed-in p Width.Word = (λ d. refl, omega arith)
+
+stack-in : (op : StackOp) → In Profile.Ppe42x (stackRow op) (Instr.Stack (oneFrame op) op 1 1)
+unfolding samples samplesL samplesS
+stack-in StackOp.Lsku = (λ d. refl, lit< tt)
+stack-in StackOp.Stsku = (λ d. refl, lit< tt)
 
 branch-rows : (p : Profile) (op : BranchOp) → Two p (branchRow op) (λ (b : Bool). Instr.Branch (Branch.Register op 20 0 0 b))
 unfolding samples samplesB
@@ -310,6 +317,8 @@ row-has p (Instr.LoadStore (LoadStore.Store width update rs ra d)) h = two-in (s
 row-has p (Instr.LoadStore (LoadStore.StoreIndexed width rs ra rb)) h = store-indexed-in p width
 row-has p (Instr.LoadStore (LoadStore.LoadDouble update dt ra d)) h = two-in {p = p} {r = at 108 9} {f = (λ (b : Bool). Instr.LoadStore (LoadStore.LoadDouble b 0 2 0))} (two _ refl) update
 row-has p (Instr.LoadStore (LoadStore.StoreDouble update ds ra d)) h = two-in {p = p} {r = at 115 38} {f = (λ (b : Bool). Instr.LoadStore (LoadStore.StoreDouble b 0 2 0))} (two _ refl) update
+row-has Profile.Ppe42 (Instr.Stack dd op rt ra) h = clash h
+row-has Profile.Ppe42x (Instr.Stack dd op rt ra) h = stack-in op
 row-has p (Instr.Branch (Branch.Always aa lk li)) h = always-in p aa lk
 row-has p (Instr.Branch (Branch.Conditional bo bi bd aa lk)) h = four-in {p = p} {r = at 98 4} {f = (λ (b c : Bool). Instr.Branch (Branch.Conditional 0 0 0 b c))} (four _ refl) aa lk
 row-has p (Instr.Branch (Branch.Register op bo bi bh lk)) h = two-in (branch-rows p op) lk
@@ -318,7 +327,7 @@ row-has p (Instr.System (System.Spr op rt spr)) h = spr-in p op
 row-has p (Instr.System (System.Move op rt)) h = move-in p op
 row-has p (Instr.System (System.Wrteei e)) h = (λ d. refl, lit< tt)
 row-has p (Instr.System System.Rfi) h = (λ d. refl, omega arith)
-row-has p (Instr.System System.Sync) h = (λ d. refl, lit< tt)
+row-has p (Instr.System System.Sync) h = (λ d. refl, omega arith)
 row-has p (Instr.Cache op hint ra rb) h = cache-in p op
 
 pub sample-at : (p : Profile) (i d : Instr) → spelledOn p i ≡ true → getD (samples p (rowOf i .letter)) (rowOf i .row) d ≡ sampleOf i

@@ -12,7 +12,7 @@ use Rattle.expr.specs.Digits.{digitsFrom}
 use Rattle.insn.specs.Write.{wordOf}
 use Rattle.insn.specs.declared.instr.Instr.{Instr}
 use Rattle.insn.specs.Valid.{validOf}
-use Rattle.syntax.specs.Syntax.{Range, signed, unsigned, target, Item, lit, reg, zreg, num, shapeOf, plain}
+use Rattle.syntax.specs.Syntax.{Range, signed, unsigned, target, frame, Item, lit, reg, zreg, num, shapeOf, plain}
 use Rattle.syntax.specs.Line.{Part, textOf}
 use Rattle.syntax.specs.Worth.{fieldOf}
 use Rattle.syntax.specs.LineOf.{numberText, registerText, baseText}
@@ -29,7 +29,7 @@ use Rattle.syntax.specs.declared.table.Done.{Done}
 unfoldable pub rangeOf : ℕ → Range
 rangeOf c =
     pick (eqb c 83) (signed 0x8000) (pick (eqb c 85) (unsigned 0x1_0000) (pick (eqb c 78) (unsigned 32) (pick (eqb c 76) (unsigned 64) (pick (eqb c 67) (unsigned 4)
-    (pick (eqb c 80) (unsigned 1024) (pick (eqb c 69) (unsigned 2) (pick (eqb c 74) (target 0x80_0000) (target 0x2000))))))))
+    (pick (eqb c 80) (unsigned 1024) (pick (eqb c 69) (unsigned 2) (pick (eqb c 70) (frame 0x1000) (pick (eqb c 74) (target 0x80_0000) (target 0x2000)))))))))
 
 abbrev pub isOperand : ℕ → Bool
 isOperand c = leb 65 c && leb c 90
@@ -143,18 +143,23 @@ abbrev pub Printable : ℕ → Job → List ℕ → Type 0
 Printable count Job.Read out = 0 < 1
 Printable count (Job.Print n q) out = (n < count) × (64 ≤ length out)
 
+-- which of the ranges it is, and its number
+abbrev pub kindOf : Range → ℕ
+kindOf (signed h) = 0
+kindOf (unsigned m) = 1
+kindOf (target h) = 2
+kindOf (frame h) = 3
+
+abbrev pub limitOf : Range → ℕ
+limitOf (signed h) = h
+limitOf (unsigned m) = m
+limitOf (target h) = h
+limitOf (frame h) = h
+
 -- rows that stand for instructions: the word and the shape of each; items end where the next begin, there are five operands at
 -- most, and room for a line in 64 bytes
 abbrev pub eqRange : Range → Range → Bool
-eqRange (signed a) (signed b) = eqb a b
-eqRange (signed a) (unsigned b) = false
-eqRange (signed a) (target b) = false
-eqRange (unsigned a) (signed b) = false
-eqRange (unsigned a) (unsigned b) = eqb a b
-eqRange (unsigned a) (target b) = false
-eqRange (target a) (signed b) = false
-eqRange (target a) (unsigned b) = false
-eqRange (target a) (target b) = eqb a b
+eqRange r q = eqb (kindOf r) (kindOf q) && eqb (limitOf r) (limitOf q)
 
 abbrev pub eqItem : Item → Item → Bool
 eqItem (lit a) (lit b) = eqb a b

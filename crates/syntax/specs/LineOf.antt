@@ -5,7 +5,7 @@ use mathlib.Core.List.{List, [], _∷_, _++_}
 use lib.Dec.{eqb, ltb}
 use Rattle.insn.specs.declared.instr.Instr.{Instr}
 use Rattle.expr.specs.Grammar.{pick}
-use Rattle.syntax.specs.Syntax.{Range, signed, unsigned, target, Piece, letter, gpr, gprOr0, number, written}
+use Rattle.syntax.specs.Syntax.{Range, signed, unsigned, target, frame, Piece, letter, gpr, gprOr0, number, written}
 
 -- a number in decimal, its last k digits at most
 unfoldable pub decimal : ℕ → ℕ → List ℕ
@@ -20,6 +20,7 @@ abbrev pub numberText : Range → ℕ → List ℕ
 numberText (signed h) n = signedText 1 h n
 numberText (unsigned m) n = decimal 8 n
 numberText (target h) n = signedText 4 h n
+numberText (frame h) n = signedText 8 h n
 
 abbrev pub registerText : ℕ → List ℕ
 registerText n = 114 ∷ decimal 2 n

@@ -11,6 +11,7 @@ use Rattle.insn.specs.declared.instr.LogicOneOp.{LogicOneOp}
 use Rattle.insn.specs.declared.instr.RotateOp.{RotateOp}
 use Rattle.insn.specs.declared.instr.RotateDoubleOp.{RotateDoubleOp}
 use Rattle.insn.specs.declared.instr.ShiftOp.{ShiftOp}
+use Rattle.insn.specs.declared.instr.StackOp.{StackOp}
 use Rattle.insn.specs.declared.instr.BranchOp.{BranchOp}
 use Rattle.insn.specs.declared.instr.SprOp.{SprOp}
 use Rattle.insn.specs.declared.instr.MoveOp.{MoveOp}
@@ -122,6 +123,10 @@ loadDoubleName true = "lvdu"  -- 9.4.47
 abbrev pub storeDoubleName : Bool → String
 storeDoubleName false = "stvd"  -- 9.4.90
 storeDoubleName true = "stvdu"  -- 9.4.91
+
+abbrev pub stackName : StackOp → String
+stackName StackOp.Lsku = "lsku"  -- 9.4.45
+stackName StackOp.Stsku = "stsku"  -- 9.4.89
 
 abbrev pub branchName : BranchOp → String
 branchName BranchOp.Bclr = "bclr"  -- 9.4.17

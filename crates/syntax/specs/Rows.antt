@@ -25,6 +25,7 @@ use Rattle.insn.specs.declared.instr.LogicOneOp.{LogicOneOp}
 use Rattle.insn.specs.declared.instr.RotateOp.{RotateOp}
 use Rattle.insn.specs.declared.instr.RotateDoubleOp.{RotateDoubleOp}
 use Rattle.insn.specs.declared.instr.ShiftOp.{ShiftOp}
+use Rattle.insn.specs.declared.instr.StackOp.{StackOp}
 use Rattle.insn.specs.declared.instr.BranchOp.{BranchOp}
 use Rattle.insn.specs.declared.instr.SprOp.{SprOp}
 use Rattle.insn.specs.declared.instr.MoveOp.{MoveOp}
@@ -32,6 +33,11 @@ use Rattle.insn.specs.declared.instr.CacheOp.{CacheOp}
 use Rattle.insn.specs.declared.instr.Sign.{Sign}
 use Rattle.expr.specs.Grammar.{pick}
 use Rattle.syntax.specs.declared.row.Row.{Row}
+
+-- DD of the least frame, one doubleword: up for lsku, down for stsku
+abbrev pub oneFrame : StackOp → ℕ
+oneFrame StackOp.Lsku = 1
+oneFrame StackOp.Stsku = 0x1FFF
 
 -- an instruction of each mnemonic: its operands are 0 but where that is not valid
 abbrev pub sampleOf : Instr → Instr
@@ -57,6 +63,7 @@ sampleOf (Instr.LoadStore (LoadStore.Store width update rs ra d)) = Instr.LoadSt
 sampleOf (Instr.LoadStore (LoadStore.StoreIndexed width rs ra rb)) = Instr.LoadStore (LoadStore.StoreIndexed width 0 0 0)
 sampleOf (Instr.LoadStore (LoadStore.LoadDouble update dt ra d)) = Instr.LoadStore (LoadStore.LoadDouble update 0 2 0)
 sampleOf (Instr.LoadStore (LoadStore.StoreDouble update ds ra d)) = Instr.LoadStore (LoadStore.StoreDouble update 0 2 0)
+sampleOf (Instr.Stack dd op rt ra) = Instr.Stack (oneFrame op) op 1 1
 sampleOf (Instr.Branch (Branch.Always aa lk li)) = Instr.Branch (Branch.Always aa lk 0)
 sampleOf (Instr.Branch (Branch.Conditional bo bi bd aa lk)) = Instr.Branch (Branch.Conditional 0 0 0 aa lk)
 sampleOf (Instr.Branch (Branch.Register op bo bi bh lk)) = Instr.Branch (Branch.Register op 20 0 0 lk)
@@ -117,6 +124,9 @@ stores width = two (λ (update : Bool). Instr.LoadStore (LoadStore.Store width u
 abbrev indexedStores : Width → List Instr → List Instr
 indexedStores width rest = Instr.LoadStore (LoadStore.StoreIndexed width 0 0 0) ∷ rest
 
+abbrev stacks : StackOp → List Instr → List Instr
+stacks op rest = Instr.Stack (oneFrame op) op 1 1 ∷ rest
+
 abbrev branches : BranchOp → List Instr → List Instr
 branches op = two (λ (lk : Bool). Instr.Branch (Branch.Register op 20 0 0 lk))
 
@@ -155,8 +165,8 @@ samplesD = caches CacheOp.Dcbf (caches CacheOp.Dcbi (caches CacheOp.Dcbt (caches
 unfoldable pub samplesE : List Instr
 samplesE = logics LogicOp.Eqv (logicOnes LogicOneOp.Extsb (logicOnes LogicOneOp.Extsh []))
 
-unfoldable pub samplesL : List Instr
-samplesL = loads Width.Byte (loads Width.Half (loads Width.Word (indexedLoads Width.Byte (indexedLoads Width.Half (indexedLoads Width.Word (two (λ (update : Bool). Instr.LoadStore (LoadStore.LoadDouble update 0 2 0)) []))))))
+unfoldable pub samplesL : Profile → List Instr
+samplesL p = loads Width.Byte (loads Width.Half (loads Width.Word (indexedLoads Width.Byte (indexedLoads Width.Half (indexedLoads Width.Word (two (λ (update : Bool). Instr.LoadStore (LoadStore.LoadDouble update 0 2 0)) (added p (stacks StackOp.Lsku []))))))))
 
 unfoldable pub samplesM : Profile → List Instr
 samplesM p = products Sign.Signed (products Sign.Unsigned (sprs SprOp.Mfspr (sprs SprOp.Mtspr (moves MoveOp.Mfcr (moves MoveOp.Mtcr0 (moves MoveOp.Mfmsr (moves MoveOp.Mtmsr (added p (Instr.Arithmetic (Arithmetic.MultiplyImm 0 0 0) ∷ four (λ (oe rc : Bool). Instr.Arithmetic (Arithmetic.MultiplyLow 0 0 0 oe rc)) [])))))))))
@@ -170,8 +180,8 @@ samplesO = logicImms LogicImmOp.Ori (logicImms LogicImmOp.Oris (logics LogicOp.O
 unfoldable pub samplesR : Profile → List Instr
 samplesR p = rotates RotateOp.Rlwimi (rotates RotateOp.Rlwinm (two (λ (rc : Bool). Instr.Rotate (Rotate.Register 0 0 0 0 0 rc)) (Instr.System System.Rfi ∷ added p (doubles RotateDoubleOp.Rldicl (doubles RotateDoubleOp.Rldicr (doubles RotateDoubleOp.Rldimi []))))))
 
-unfoldable pub samplesS : List Instr
-samplesS = imms ArithImmOp.Subfic (sums ArithOp.Subf (sums ArithOp.Subfc (sums ArithOp.Subfe (ones ArithOneOp.Subfme (ones ArithOneOp.Subfze (shifts ShiftOp.Slw (shifts ShiftOp.Srw (shifts ShiftOp.Sraw (two (λ (rc : Bool). Instr.Rotate (Rotate.Srawi 0 0 0 rc)) (stores Width.Byte (stores Width.Half (stores Width.Word (indexedStores Width.Byte (indexedStores Width.Half (indexedStores Width.Word (two (λ (update : Bool). Instr.LoadStore (LoadStore.StoreDouble update 0 2 0)) (Instr.System System.Sync ∷ [])))))))))))))))))
+unfoldable pub samplesS : Profile → List Instr
+samplesS p = imms ArithImmOp.Subfic (sums ArithOp.Subf (sums ArithOp.Subfc (sums ArithOp.Subfe (ones ArithOneOp.Subfme (ones ArithOneOp.Subfze (shifts ShiftOp.Slw (shifts ShiftOp.Srw (shifts ShiftOp.Sraw (two (λ (rc : Bool). Instr.Rotate (Rotate.Srawi 0 0 0 rc)) (stores Width.Byte (stores Width.Half (stores Width.Word (indexedStores Width.Byte (indexedStores Width.Half (indexedStores Width.Word (two (λ (update : Bool). Instr.LoadStore (LoadStore.StoreDouble update 0 2 0)) (Instr.System System.Sync ∷ added p (stacks StackOp.Stsku []))))))))))))))))))
 
 unfoldable pub samplesT : List Instr
 samplesT = Instr.Trap 0 0 0 false ∷ []
@@ -186,8 +196,8 @@ samplesX = logicImms LogicImmOp.Xori (logicImms LogicImmOp.Xoris (logics LogicOp
 unfoldable pub samples : Profile → ℕ → List Instr
 samples p c =
     pick (eqb c 97) samplesA (pick (eqb c 98) samplesB (pick (eqb c 99) samplesC (pick (eqb c 100) samplesD (pick (eqb c 101) samplesE
-    (pick (eqb c 108) samplesL (pick (eqb c 109) (samplesM p) (pick (eqb c 110) samplesN (pick (eqb c 111) samplesO (pick (eqb c 114) (samplesR p)
-    (pick (eqb c 115) samplesS (pick (eqb c 116) samplesT (pick (eqb c 119) samplesW (pick (eqb c 120) samplesX [])))))))))))))
+    (pick (eqb c 108) (samplesL p) (pick (eqb c 109) (samplesM p) (pick (eqb c 110) samplesN (pick (eqb c 111) samplesO (pick (eqb c 114) (samplesR p)
+    (pick (eqb c 115) (samplesS p) (pick (eqb c 116) samplesT (pick (eqb c 119) samplesW (pick (eqb c 120) samplesX [])))))))))))))
 
 abbrev pub at : ℕ → ℕ → Row
 at letter row = record { letter = letter; row = row }
@@ -290,6 +300,10 @@ storeIndexedRow Width.Byte = at 115 35
 storeIndexedRow Width.Half = at 115 36
 storeIndexedRow Width.Word = at 115 37
 
+abbrev pub stackRow : StackOp → Row
+stackRow StackOp.Lsku = at 108 11
+stackRow StackOp.Stsku = at 115 41
+
 abbrev pub branchRow : BranchOp → Row
 branchRow BranchOp.Bclr = at 98 8
 branchRow BranchOp.Bcctr = at 98 10
@@ -334,6 +348,7 @@ rowOf (Instr.LoadStore (LoadStore.Store width update rs ra d)) = rowAfter (store
 rowOf (Instr.LoadStore (LoadStore.StoreIndexed width rs ra rb)) = storeIndexedRow width
 rowOf (Instr.LoadStore (LoadStore.LoadDouble update dt ra d)) = at 108 (9 + digit update)
 rowOf (Instr.LoadStore (LoadStore.StoreDouble update ds ra d)) = at 115 (38 + digit update)
+rowOf (Instr.Stack dd op rt ra) = stackRow op
 rowOf (Instr.Branch (Branch.Always aa lk li)) = at 98 (2 * digit aa + digit lk)
 rowOf (Instr.Branch (Branch.Conditional bo bi bd aa lk)) = at 98 (4 + (2 * digit aa + digit lk))
 rowOf (Instr.Branch (Branch.Register op bo bi bh lk)) = rowAfter (branchRow op) (digit lk)

@@ -20,13 +20,15 @@ use Rattle.insn.specs.declared.instr.SprOp.{SprOp}
 use Rattle.insn.specs.declared.instr.CacheOp.{CacheOp}
 use Rattle.insn.specs.declared.instr.Sign.{Sign}
 use Rattle.syntax.specs.Text.{bytes}
-use Rattle.syntax.specs.Names.{arithImmName, arithName, arithOneName, multiplyName, logicImmName, logicName, logicOneName, compareImmName, compareName, rotateName, rotateDoubleName, shiftName, loadName, loadIndexedName, storeName, storeIndexedName, loadDoubleName, storeDoubleName, branchName, moveName, cacheName}
+use Rattle.syntax.specs.Names.{arithImmName, arithName, arithOneName, multiplyName, logicImmName, logicName, logicOneName, compareImmName, compareName, rotateName, rotateDoubleName, shiftName, loadName, loadIndexedName, storeName, storeIndexedName, loadDoubleName, storeDoubleName, stackName, branchName, moveName, cacheName}
 
--- which numbers an operand takes: from -h to h - 1; from 0 to n - 1; from -4h to 4h - 4, a multiple of 4
+-- which numbers an operand takes: from -h to h - 1; from 0 to n - 1; from -4h to 4h - 4, a multiple of 4; from -8h to 8h - 1, of
+-- which the last three bits are dropped (9.4.45, 9.4.89)
 pub data Range : Type 0 where
   signed : ℕ → Range
   unsigned : ℕ → Range
   target : ℕ → Range
+  frame : ℕ → Range
 
 -- what stands at a place of a line: that byte; r and a number; the same or a lone 0, where 9.4 reads (RA|0); an expression
 pub data Item : Type 0 where
@@ -84,6 +86,10 @@ RA0 n = gprOr0 n ∷ []
 abbrev pub D : Bool → ℕ → ℕ → List Piece
 D true d ra = number (signed 0x8000) d ∷ letter 40 ∷ gpr ra ∷ letter 41 ∷ []
 D false d ra = number (signed 0x8000) d ∷ letter 40 ∷ gprOr0 ra ∷ letter 41 ∷ []
+
+-- DD(RA), where the offset is in bytes
+abbrev pub DD : ℕ → ℕ → List Piece
+DD dd ra = number (frame 0x1000) dd ∷ letter 40 ∷ gpr ra ∷ letter 41 ∷ []
 
 unfoldable pub letters : List ℕ → List Piece
 letters [] = []
@@ -154,6 +160,7 @@ written (Instr.LoadStore (LoadStore.Store width update rs ra d)) = one (storeNam
 written (Instr.LoadStore (LoadStore.StoreIndexed width rs ra rb)) = one (storeIndexedName width) (R rs ∷ RA0 ra ∷ R rb ∷ [])
 written (Instr.LoadStore (LoadStore.LoadDouble update dt ra d)) = one (loadDoubleName update) (R dt ∷ D update d ra ∷ [])
 written (Instr.LoadStore (LoadStore.StoreDouble update ds ra d)) = one (storeDoubleName update) (R ds ∷ D update d ra ∷ [])
+written (Instr.Stack dd op rt ra) = one (stackName op) (R rt ∷ DD dd ra ∷ [])
 written (Instr.Branch (Branch.Always aa lk li)) = spelt (bytes "b" ++ l lk ++ a aa) (LI li ∷ [])  -- 9.4.14
 written (Instr.Branch (Branch.Conditional bo bi bd aa lk)) = spelt (bytes "bc" ++ l lk ++ a aa) (five bo ∷ BI bi ∷ BD bd ∷ [])  -- 9.4.15
 written (Instr.Branch (Branch.Register op bo bi bh lk)) = spelt (bytes (branchName op) ++ l lk) (five bo ∷ BI bi ∷ [])
@@ -177,17 +184,20 @@ plain (Instr.Logical x) = true
 plain (Instr.Compare x) = true
 plain (Instr.Rotate x) = true
 plain (Instr.LoadStore x) = true
+plain (Instr.Stack dd op rt ra) = true
 plain (Instr.Branch (Branch.Always aa lk li)) = true
 plain (Instr.Branch (Branch.Conditional bo bi bd aa lk)) = true
 plain (Instr.System x) = true
 
--- the mnemonic is one of this core's: mulli, mullw, rldicl, rldicr and rldimi are the 42X's alone (9.2.1, 9.2.3), whatever their operands
+-- the mnemonic is one of this core's: mulli, mullw, rldicl, rldicr, rldimi, lsku and stsku are the 42X's alone (9.2.1, 9.2.3), whatever
+-- their operands
 abbrev pub spelledOn : Profile → Instr → Bool
 spelledOn p (Instr.Arithmetic i) = arithmeticOn42 i || is42x p
 spelledOn p (Instr.Logical i) = true
 spelledOn p (Instr.Compare i) = true
 spelledOn p (Instr.Rotate i) = rotateOn42 i || is42x p
 spelledOn p (Instr.LoadStore i) = true
+spelledOn p (Instr.Stack dd op rt ra) = is42x p
 spelledOn p (Instr.Branch i) = true
 spelledOn p (Instr.Trap to ra rb tg) = true
 spelledOn p (Instr.System i) = true

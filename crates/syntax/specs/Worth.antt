@@ -7,7 +7,7 @@ use lib.ListN.{length}
 use Rattle.expr.specs.Grammar.{pick}
 use Rattle.expr.specs.Evaluate.{evalE, digitsValue}
 use Rattle.expr.specs.declared.Value.{Value}
-use Rattle.syntax.specs.Syntax.{Range, signed, unsigned, target, Item, lit, reg, zreg, num, Piece, letter, gpr, gprOr0, number}
+use Rattle.syntax.specs.Syntax.{Range, signed, unsigned, target, frame, Item, lit, reg, zreg, num, Piece, letter, gpr, gprOr0, number}
 use Rattle.syntax.specs.Line.{Part, byte, register, zero, value, textOf}
 use Rattle.syntax.specs.declared.field.Field.{Field}
 
@@ -32,10 +32,17 @@ targetCode h (Value.Plus n) = pick (eqb (n % 4) 0) (signedCode h (Value.Plus (n 
 targetCode h (Value.Minus n) = pick (eqb (n % 4) 3) (signedCode h (Value.Minus (n / 4))) Field.Unfit
 targetCode h (Value.Off k) = Field.Off k
 
+-- a number of doublewords, rounded down on both sides of 0
+unfoldable pub frameCode : ℕ → Value → Field
+frameCode h (Value.Plus n) = signedCode h (Value.Plus (n / 8))
+frameCode h (Value.Minus n) = signedCode h (Value.Minus (n / 8))
+frameCode h (Value.Off k) = Field.Off k
+
 abbrev pub codeOf : Range → Value → Field
 codeOf (signed h) v = signedCode h v
 codeOf (unsigned m) v = unsignedCode m v
 codeOf (target h) v = targetCode h v
+codeOf (frame h) v = frameCode h v
 
 -- the field of a part that stands at a column
 abbrev pub registerField : Part → Field

@@ -1,7 +1,7 @@
 // What the field of an operand holds.
 ghost use mathlib.Core.Path.{_≡_};
 ghost use Prim.Native.Nat.{_≤_, _^_};
-ghost use Rattle.syntax.specs.Worth.{below, signedCode, unsignedCode, targetCode, codeOf};
+ghost use Rattle.syntax.specs.Worth.{below, signedCode, unsignedCode, targetCode, frameCode, codeOf};
 ghost use Rattle.syntax.specs.Inside.{rangeOf};
 use expr::Value;
 
@@ -70,6 +70,18 @@ fn target_code(h: u64, v: Value) -> Field
     }
 }
 
+// A number of doublewords, of bytes whose last three bits are dropped.
+fn frame_code(h: u64, v: Value) -> Field
+    requires { ⌜ h ≤ 2 ^ 31 ⌝ }
+    ensures { λ r. ⌜ r ≡ frameCode h v ⌝ }
+{
+    match v {
+        Value::Off(k) => Field::Off(k),
+        Value::Plus(n) => signed_code(h, Value::Plus(n / 8)),
+        Value::Minus(n) => signed_code(h, Value::Minus(n / 8)),
+    }
+}
+
 // By the letter that stands for the operand in the table.
 pub fn number_code(c: u8, v: Value) -> Field
     ensures { λ r. ⌜ r ≡ codeOf (rangeOf c) v ⌝ }
@@ -88,6 +100,8 @@ pub fn number_code(c: u8, v: Value) -> Field
         unsigned_code(1024, v)
     } else if c == b'E' {
         unsigned_code(2, v)
+    } else if c == b'F' {
+        frame_code(0x1000, v)
     } else if c == b'J' {
         target_code(0x80_0000, v)
     } else {

@@ -69,7 +69,7 @@ fn less(a: u32, b: u32) -> u32
 
 // Two's complement in a field of 2 * h values, times a unit.
 fn put_signed(out: &mut [u8], at: usize, unit: u32, h: u32, n: u32) -> usize
-    requires { ⌜ (at + 9 ≤ length (now out)) × ((unit ≤ 4) × (h ≤ 0x80_0000)) ⌝ }
+    requires { ⌜ (at + 9 ≤ length (now out)) × ((unit ≤ 8) × (h ≤ 0x80_0000)) ⌝ }
     ensures { λ r. ⌜ (r ≡ at + length (signedText unit h n)) × (now (out .exit) ≡ sets (now (out .entry)) at (signedText unit h n)) ⌝ }
 {
     if n < h {
@@ -87,6 +87,8 @@ fn put_number(out: &mut [u8], at: usize, c: u8, n: u32) -> usize
         put_signed(out, at, 1, 0x8000, n)
     } else if (c == b'U') | (c == b'N') | (c == b'L') | (c == b'C') | (c == b'P') | (c == b'E') {
         put_decimal(out, at, n, 8)
+    } else if c == b'F' {
+        put_signed(out, at, 8, 0x1000, n)
     } else if c == b'J' {
         put_signed(out, at, 4, 0x80_0000, n)
     } else {

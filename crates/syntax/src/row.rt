@@ -3,7 +3,7 @@
 ghost use mathlib.Core.Path.{_≡_};
 ghost use Prim.Native.Nat.{_<_};
 ghost use Rattle.word.specs.Bits.{digit};
-ghost use Rattle.syntax.specs.Rows.{SameRow, rowAfter, rowOf, arithImmRow, arithRow, arithOneRow, multiplyRow, logicImmRow, logicRow, logicOneRow, compareImmRow, compareRow, rotateRow, rotateDoubleRow, shiftRow, loadRow, loadIndexedRow, storeRow, storeIndexedRow, branchRow, sprRow, moveRow, cacheRow};
+ghost use Rattle.syntax.specs.Rows.{SameRow, rowAfter, rowOf, arithImmRow, arithRow, arithOneRow, multiplyRow, logicImmRow, logicRow, logicOneRow, compareImmRow, compareRow, rotateRow, rotateDoubleRow, shiftRow, loadRow, loadIndexedRow, storeRow, storeIndexedRow, stackRow, branchRow, sprRow, moveRow, cacheRow};
 ghost use Rattle.insn.specs.declared.instr.Instr.{Instr};
 use insn::instr::*;
 use word::width::Width;
@@ -42,6 +42,7 @@ pub fn row_of(i: Instr) -> Row
         Instr::Compare(x) => compare(x),
         Instr::Rotate(x) => rotate(x),
         Instr::LoadStore(x) => load_store(x),
+        Instr::Stack { op, .. } => stack_row(op),
         Instr::Branch(x) => branch(x),
         Instr::Trap { .. } => at(b't', 0),
         Instr::System(x) => system(x),
@@ -297,6 +298,15 @@ fn store_indexed_row(width: Width) -> Row
         Width::Byte => at(b's', 35),
         Width::Half => at(b's', 36),
         Width::Word => at(b's', 37),
+    }
+}
+
+fn stack_row(op: StackOp) -> Row
+    ensures { λ r. ⌜ SameRow r (stackRow op) × (r .row < 64) ⌝ }
+{
+    match op {
+        StackOp::Lsku => at(b'l', 11),
+        StackOp::Stsku => at(b's', 41),
     }
 }
 

@@ -1,6 +1,6 @@
 // The syntax lines of 9.4, a row of 28 bytes for each mnemonic: the word of one of its instructions, and what stands in its
 // lines. R is a register, Z a register or a lone 0, and each other upper-case letter a number: S signed and U unsigned of 16
-// bits, N of five, L of six, C of two, P of ten and E of one; J and K the targets of b and bc.
+// bits, N of five, L of six, C of two, P of ten and E of one; J and K the targets of b and bc, and F a frame in bytes.
 ghost use mathlib.Core.Path.{_≡_};
 ghost use Prim.Native.Nat.{ℕ, _*_, _+_, _≤_, _<_};
 ghost use lib.ListN.{length};
@@ -199,9 +199,9 @@ fn rows_of_e(job: Job, text: &[u8], out: &mut [u8]) -> Done
     work(job, text, out, rows, 6)
 }
 
-fn rows_of_l(job: Job, text: &[u8], out: &mut [u8]) -> Done
-    requires { ⌜ Printable (length samplesL) job (now out) ⌝ }
-    ensures { λ r. ⌜ WithRows samplesL job (now (text .entry)) (now (out .entry)) (now (out .exit)) r ⌝ }
+fn rows_of_l(profile: Profile, job: Job, text: &[u8], out: &mut [u8]) -> Done
+    requires { ⌜ Printable (length (samplesL profile)) job (now out) ⌝ }
+    ensures { λ r. ⌜ WithRows (samplesL profile) job (now (text .entry)) (now (out .entry)) (now (out .exit)) r ⌝ }
 {
     let rows = b"\
 88020000 lbz R,S(Z);        \
@@ -214,8 +214,12 @@ A4020000 lhzu R,S(R);       \
 7C00022E lhzx R,Z,R;        \
 7C00002E lwzx R,Z,R;        \
 14020000 lvd R,S(Z);        \
-24020000 lvdu R,S(R);       ";
-    work(job, text, out, rows, 11)
+24020000 lvdu R,S(R);       \
+E821000B lsku R,F(R);       ";
+    match profile {
+        Profile::Ppe42 => work(job, text, out, rows, 11),
+        Profile::Ppe42x => work(job, text, out, rows, 12),
+    }
 }
 
 fn rows_of_m(profile: Profile, job: Job, text: &[u8], out: &mut [u8]) -> Done
@@ -298,9 +302,9 @@ fn rows_of_r(profile: Profile, job: Job, text: &[u8], out: &mut [u8]) -> Done
     }
 }
 
-fn rows_of_s(job: Job, text: &[u8], out: &mut [u8]) -> Done
-    requires { ⌜ Printable (length samplesS) job (now out) ⌝ }
-    ensures { λ r. ⌜ WithRows samplesS job (now (text .entry)) (now (out .entry)) (now (out .exit)) r ⌝ }
+fn rows_of_s(profile: Profile, job: Job, text: &[u8], out: &mut [u8]) -> Done
+    requires { ⌜ Printable (length (samplesS profile)) job (now out) ⌝ }
+    ensures { λ r. ⌜ WithRows (samplesS profile) job (now (text .entry)) (now (out .entry)) (now (out .exit)) r ⌝ }
 {
     let rows = b"\
 20000000 subfic R,R,S;      \
@@ -343,8 +347,12 @@ B4020000 sthu R,S(R);       \
 7C00012E stwx R,Z,R;        \
 18020000 stvd R,S(Z);       \
 58020000 stvdu R,S(R);      \
-7C0004AC sync;              ";
-    work(job, text, out, rows, 41)
+7C0004AC sync;              \
+F821FFFB stsku R,F(R);      ";
+    match profile {
+        Profile::Ppe42 => work(job, text, out, rows, 41),
+        Profile::Ppe42x => work(job, text, out, rows, 42),
+    }
 }
 
 fn rows_of_t(job: Job, text: &[u8], out: &mut [u8]) -> Done
@@ -388,12 +396,12 @@ pub fn at_letter(profile: Profile, c: u8, job: Job, text: &[u8], out: &mut [u8])
         b'c' => rows_of_c(job, text, out),
         b'd' => rows_of_d(job, text, out),
         b'e' => rows_of_e(job, text, out),
-        b'l' => rows_of_l(job, text, out),
+        b'l' => rows_of_l(profile, job, text, out),
         b'm' => rows_of_m(profile, job, text, out),
         b'n' => rows_of_n(job, text, out),
         b'o' => rows_of_o(job, text, out),
         b'r' => rows_of_r(profile, job, text, out),
-        b's' => rows_of_s(job, text, out),
+        b's' => rows_of_s(profile, job, text, out),
         b't' => rows_of_t(job, text, out),
         b'w' => rows_of_w(job, text, out),
         b'x' => rows_of_x(job, text, out),

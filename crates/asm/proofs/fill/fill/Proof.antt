@@ -2,127 +2,42 @@ use borrow.Author.Needs.{needs}
 use Rattle.asm.proofs.fill.fill.Statement.{statement}
 use Rattle.asm.proofs.fill.fill.Tie as tie
 
-enum-known-i : tie.Need-enum-known-i
-enum-known-i c = search needs
-
-arithmetic-requires : tie.Need-arithmetic-requires
-arithmetic-requires c κs = search needs
-
-enum-known-i-2 : tie.Need-enum-known-i-2
-enum-known-i-2 c = search needs
-
-logical-requires : tie.Need-logical-requires
-logical-requires c κs = search needs
-
-enum-known-i-3 : tie.Need-enum-known-i-3
-enum-known-i-3 c = search needs
-
-compare-requires : tie.Need-compare-requires
-compare-requires c κs = search needs
-
-enum-known-i-4 : tie.Need-enum-known-i-4
-enum-known-i-4 c = search needs
-
-rotate-requires : tie.Need-rotate-requires
-rotate-requires c κs = search needs
-
-enum-known-i-5 : tie.Need-enum-known-i-5
-enum-known-i-5 c = search needs
-
-load-store-requires : tie.Need-load-store-requires
-load-store-requires c κs = search needs
-
-enum-known-i-6 : tie.Need-enum-known-i-6
-enum-known-i-6 c = search needs
-
-branch-requires : tie.Need-branch-requires
-branch-requires c κs = search needs
-
-enum-known-i-7 : tie.Need-enum-known-i-7
-enum-known-i-7 c = search needs
-
-eight-requires : tie.Need-eight-requires
-eight-requires c κs = search needs
-
-eight-requires-2 : tie.Need-eight-requires-2
-eight-requires-2 c κs = search needs
-
-eight-requires-3 : tie.Need-eight-requires-3
-eight-requires-3 c κs = search needs
-
-enum-known-i-8 : tie.Need-enum-known-i-8
-enum-known-i-8 c = search needs
-
-system-requires : tie.Need-system-requires
-system-requires c κs = search needs
-
-enum-known-i-9 : tie.Need-enum-known-i-9
-enum-known-i-9 c = search needs
-
-eight-requires-4 : tie.Need-eight-requires-4
-eight-requires-4 c κs = search needs
-
-eight-requires-5 : tie.Need-eight-requires-5
-eight-requires-5 c κs = search needs
-
-returns : tie.Need-returns
-returns c = rw (c .before .before .i .given .1, c .arithmetic .ensures)
-
-returns-2 : tie.Need-returns-2
-returns-2 c = rw (c .before .before .i2 .given .1, c .logical .ensures)
-
-returns-3 : tie.Need-returns-3
-returns-3 c = rw (c .before .before .i3 .given .1, c .compare .ensures)
-
-returns-4 : tie.Need-returns-4
-returns-4 c = rw (c .before .before .i4 .given .1, c .rotate .ensures)
-
-returns-5 : tie.Need-returns-5
-returns-5 c = rw (c .before .before .i5 .given .1, c .load-store .ensures)
-
-returns-6 : tie.Need-returns-6
-returns-6 c = rw (c .before .before .i6 .given .1, c .branch .ensures)
-
-returns-7 : tie.Need-returns-7
-returns-7 c = rw (c .before .before .before .before .i7 .given .1, c .eight3 .ensures, c .before .eight2 .ensures, c .before .before .eight .ensures)
-
-returns-8 : tie.Need-returns-8
-returns-8 c = rw (c .before .before .i8 .given .1, c .system .ensures)
-
-returns-9 : tie.Need-returns-9
-returns-9 c = rw (c .before .before .before .i9 .given .1, c .eight5 .ensures, c .before .eight4 .ensures)
-
 pub fill-spec : {M : Type 1} → statement M
 fill-spec =
     tie.close
     (tie.spec
-    enum-known-i
-    arithmetic-requires
-    enum-known-i-2
-    logical-requires
-    enum-known-i-3
-    compare-requires
-    enum-known-i-4
-    rotate-requires
-    enum-known-i-5
-    load-store-requires
-    enum-known-i-6
-    branch-requires
-    enum-known-i-7
-    eight-requires
-    eight-requires-2
-    eight-requires-3
-    enum-known-i-8
-    system-requires
-    enum-known-i-9
-    eight-requires-4
-    eight-requires-5
-    returns
-    returns-2
-    returns-3
-    returns-4
-    returns-5
-    returns-6
-    returns-7
-    returns-8
-    returns-9)
+    (λ c. search needs)
+    (λ c κs. search needs)
+    (λ c. search needs)
+    (λ c κs. search needs)
+    (λ c. search needs)
+    (λ c κs. search needs)
+    (λ c. search needs)
+    (λ c κs. search needs)
+    (λ c. search needs)
+    (λ c κs. search needs)
+    (λ c. search needs)
+    (λ c κs. search needs)
+    (λ c κs. search needs)
+    (λ c κs. search needs)
+    (λ c. search needs)
+    (λ c κs. search needs)
+    (λ c. search needs)
+    (λ c κs. search needs)
+    (λ c κs. search needs)
+    (λ c κs. search needs)
+    (λ c. search needs)
+    (λ c κs. search needs)
+    (λ c. search needs)
+    (λ c κs. search needs)
+    (λ c κs. search needs)
+    (λ c. rw (c .before .before .i .given .1, c .arithmetic .ensures))
+    (λ c. rw (c .before .before .i2 .given .1, c .logical .ensures))
+    (λ c. rw (c .before .before .i3 .given .1, c .compare .ensures))
+    (λ c. rw (c .before .before .i4 .given .1, c .rotate .ensures))
+    (λ c. rw (c .before .before .i5 .given .1, c .load-store .ensures))
+    (λ c. rw (c .before .before .before .before .i6 .given .1, c .sixteen .ensures, c .before .eight2 .ensures, c .before .before .eight .ensures))
+    (λ c. rw (c .before .before .i7 .given .1, c .branch .ensures))
+    (λ c. rw (c .before .before .before .before .i8 .given .1, c .eight5 .ensures, c .before .eight4 .ensures, c .before .before .eight3 .ensures))
+    (λ c. rw (c .before .before .i9 .given .1, c .system .ensures))
+    (λ c. rw (c .before .before .before .i10 .given .1, c .eight7 .ensures, c .before .eight6 .ensures)))
