@@ -2,21 +2,23 @@
 use Prim.Native.Nat.{ℕ, zero, suc}
 use mathlib.Core.Bool.{Bool, false}
 use mathlib.Core.Path.{_≡_, refl, ap, _∙_}
-use mathlib.Core.List.{List}
+use mathlib.Core.List.{List, [], _∷_}
 use lib.Dec.{eqb}
 use lib.ListN.{length, getD}
 use Rattle.word.specs.Bits.{bitAt}
 use Rattle.word.specs.Width.{bytes}
 use Rattle.word.specs.declared.width.Width.{Width}
-use Rattle.memory.specs.Access.{accessOf, sizedOf}
+use Rattle.memory.specs.Access.{alignedOf, accessOf, sizedOf}
 use Rattle.memory.specs.Load.{loadOf, loadDoubleOf, fetchOf}
 use Rattle.memory.specs.Store.{blockAt}
+use Rattle.memory.specs.declared.access.Access.{Access}
 use Rattle.memory.specs.declared.load.Loaded.{Loaded}
 use Rattle.memory.proofs.Grow.{stored-length, stored-double-length, cleared-length}
 use Rattle.insn.specs.Read.{decodeOn}
 use Rattle.insn.specs.declared.instr.Instr.{Instr}
 use Rattle.insn.specs.declared.instr.Decoded.{Decoded}
 use Rattle.insn.specs.declared.instr.LoadStore.{LoadStore}
+use Rattle.insn.specs.declared.instr.StackOp.{StackOp}
 use Rattle.insn.specs.declared.instr.CacheOp.{CacheOp}
 use Rattle.insn.specs.declared.profile.Profile.{Profile}
 use Rattle.machine.specs.State.{gprOf, vdrOf}
@@ -24,6 +26,7 @@ use Rattle.machine.specs.Refusal.{acceptsOf, unless, orElse}
 use Rattle.machine.specs.Register.{refusalOf, startRefusal}
 use Rattle.machine.specs.After.{After}
 use Rattle.machine.specs.LoadStore.{loadAt, storeAt, loadDoubleAt, storeDoubleAt, loadStoreOf}
+use Rattle.machine.specs.Stack.{Part, addressOf, sizeOf, stateAfter, memoryAfter, storesOf, scratchOf, goesOn, framedOf, stackOf}
 use Rattle.machine.specs.Cache.{clearAt, cacheOf}
 use Rattle.machine.specs.Timer.{tickedOf, actsOf}
 use Rattle.machine.specs.Step.{executeOf, decodedOf, fetchedOf, runningOf, awakeOf, highestOf, interruptibleOf, countedOf, stepOf}
@@ -32,9 +35,10 @@ use Rattle.machine.specs.declared.interrupt.Cause.{Cause}
 use Rattle.machine.specs.declared.step.Pending.{Pending}
 use Rattle.machine.specs.declared.refusal.Refusal.{Refusal}
 use Rattle.machine.proofs.Refusals.{accepts-none, or-accepts}
+use Rattle.machine.proofs.Frames.{part-length}
 use Rattle.run.specs.Run.{Ran, runOf}
 use Rattle.run.specs.Outcome.{runRefusal}
-use Rattle.promises.proofs.Sound.{Sound, picked, accepted-sound, sound-accepted, next-sound, entered-sound, interrupted-sound, ticked-sound, acted-sound, arithmetic-sound, logical-sound, compare-sound, rotate-sound, branch-sound, trap-sound, system-sound, loaded-sound, loaded-double-sound, stored-sound, cleared-sound}
+use Rattle.promises.proofs.Sound.{Sound, picked, accepted-sound, sound-accepted, next-sound, entered-sound, interrupted-sound, ticked-sound, acted-sound, arithmetic-sound, logical-sound, compare-sound, rotate-sound, branch-sound, trap-sound, system-sound, loaded-sound, loaded-double-sound, stored-sound, cleared-sound, framed-sound, part-sound}
 
 -- from a state and a memory to others: a sound state stays sound, and the memory keeps its length
 pub record Kept (p : Profile) (s : State) (m : List ℕ) (t : State) (x : List ℕ) : Type 0 where
@@ -51,7 +55,24 @@ chain a b = record { st = λ k. b .st (a .st k); mem = b .mem ∙ a .mem }
 abbrev Left : Profile → State → List ℕ → After → Type 0
 Left p s m a = Kept p s m (a .st) (a .mem)
 
+-- lsku and stsku: one access after the other
+part-left : (p : Profile) (s : State) (m : List ℕ) (store : Bool) (a : ℕ) (k : Access) (rest : After) → Left p s m rest → Left p s m (goesOn p s m store a k rest)
+part-left p s m store a Access.Served rest l = l
+part-left p s m store a Access.Unaligned rest l = untouched (λ k. interrupted-sound k (Cause.Alignment a store))
+part-left p s m store a Access.Outside rest l = untouched (λ k. interrupted-sound k (Cause.DataStorage a store))
+
+framed-left : (p : Profile) (op : StackOp) (ra sp ea : ℕ) (xs : List Part) (s : State) (m : List ℕ) → Left p s m (framedOf p op ra sp ea xs s m)
+unfolding framedOf
+framed-left p op ra sp ea [] s m = untouched (λ k. framed-sound k ra ea (scratchOf op sp ea))
+framed-left p op ra sp ea (x ∷ xs) s m =
+    part-left p s m (storesOf op) (addressOf x) (accessOf (length m) (addressOf x) (sizeOf x)) _
+    (chain (record { st = λ k. part-sound k op ra x m; mem = part-length op ra x s m }) (framed-left p op ra sp ea xs (stateAfter op ra x s m) (memoryAfter op ra x s m)))
+
 module _ (p : Profile) (s : State) (m : List ℕ) where
+  stack-left : (op : StackOp) (ra dd : ℕ) → Left p s m (stackOf p s m op ra dd)
+  unfolding stackOf
+  stack-left op ra dd = picked (Left p s m) (alignedOf (gprOf s ra) 8) (framed-left p op ra _ _ _ s m) (untouched (λ k. interrupted-sound k (Cause.Alignment (gprOf s ra) (storesOf op))))
+
   load-left : (w : Width) (rt ea : ℕ) (update : Bool) (ra : ℕ) → Left p s m (loadAt p s m w rt ea update ra)
   unfolding loadAt
   load-left w rt ea update ra = untouched (λ k. loaded-sound k (loadOf m ea w) rt update ra ea)
@@ -97,6 +118,7 @@ module _ (p : Profile) (s : State) (m : List ℕ) where
   execute-left w (Instr.Compare i) = untouched (λ k. compare-sound k i)
   execute-left w (Instr.Rotate i) = untouched (λ k. rotate-sound k i)
   execute-left w (Instr.LoadStore i) = load-store-left i
+  execute-left w (Instr.Stack dd op rt ra) = stack-left op ra dd
   execute-left w (Instr.Branch i) = untouched (λ k. branch-sound k i)
   execute-left w (Instr.Trap to ra rb tg) = untouched (λ k. trap-sound k w to tg)
   execute-left w (Instr.System i) = untouched (λ k. system-sound k i)

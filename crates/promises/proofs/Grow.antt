@@ -2,38 +2,118 @@
 use Prim.Native.Nat.{ℕ, zero, suc, _+_}
 use native.Mathlib.Nat.{suc-add, zero-add}
 use mathlib.Core.Bool.{Bool, true, false}
-use mathlib.Core.Path.{_≡_, refl, sym}
-use mathlib.Core.List.{List, _++_}
+use mathlib.Core.Path.{_≡_, refl, sym, _∙_}
+use mathlib.Core.List.{List, [], _∷_, _++_}
 use lib.Dec.{eqb}
 use lib.ListN.{getD, length}
 use borrow.Author.Tests.{eqb-false}
 use Rattle.word.specs.Bits.{bitAt}
 use Rattle.word.specs.Width.{bytes}
 use Rattle.word.specs.declared.width.Width.{Width}
-use Rattle.memory.specs.Access.{pick, fetchAccessOf, reachesPast}
-use Rattle.memory.specs.Load.{loaded, fetchOf, valueAt}
+use Rattle.memory.specs.Access.{pick, alignedOf, accessOf, fetchAccessOf, reachesPast}
+use Rattle.memory.specs.Load.{loaded, loadOf, loadDoubleOf, fetchOf, valueAt, doubleAt}
 use Rattle.memory.specs.Store.{blockAt}
 use Rattle.memory.specs.declared.access.Access.{Access}
 use Rattle.memory.specs.declared.load.Loaded.{Loaded}
+use Rattle.memory.specs.declared.load.LoadedDouble.{LoadedDouble}
 use Rattle.word.proofs.Truth.{never}
-use Rattle.memory.proofs.Grow.{access-grow, load-grow, load-double-grow, fetch-grow, store-grow, store-double-grow, clear-grow}
+use Rattle.memory.proofs.Grow.{access-grow, load-grow, load-double-grow, fetch-grow, store-grow, store-double-grow, clear-grow, sets-grow}
+use Rattle.memory.proofs.Laws.{served-inside}
 use Rattle.insn.specs.Read.{decodeOn}
 use Rattle.insn.specs.declared.instr.Instr.{Instr}
 use Rattle.insn.specs.declared.instr.Decoded.{Decoded}
 use Rattle.insn.specs.declared.instr.LoadStore.{LoadStore}
+use Rattle.insn.specs.declared.instr.StackOp.{StackOp}
 use Rattle.insn.specs.declared.instr.CacheOp.{CacheOp}
 use Rattle.insn.specs.declared.profile.Profile.{Profile}
 use Rattle.machine.specs.State.{gprOf, vdrOf}
 use Rattle.machine.specs.After.{After, plain}
 use Rattle.machine.specs.LoadStore.{offsetEa, indexedEa, loadAt, storeAt, loadDoubleAt, storeDoubleAt, loadStoreOf}
+use Rattle.machine.specs.Interrupt.{interruptedOf}
+use Rattle.machine.specs.Stack.{Part, pair, link, back, addressOf, sizeOf, frameEa, doublewords, partsOf, pushed, stateAfter, memoryAfter, storesOf, goesOn, framedOf, stackOf}
 use Rattle.machine.specs.Cache.{clearAt, cacheOf}
 use Rattle.machine.specs.Timer.{tickedOf, actsOf, actedOf}
 use Rattle.machine.specs.Step.{executeOf, decodedOf, fetchedOf, runningOf, awakeOf, highestOf, interruptibleOf, countedOf, stepOf}
 use Rattle.machine.specs.declared.state.State.{State}
+use Rattle.machine.specs.declared.interrupt.Cause.{Cause}
 use Rattle.machine.specs.declared.step.Pending.{Pending}
 use Rattle.run.specs.Run.{Ran, runOf, pastOf}
 use Rattle.run.proofs.Laws.{run-halted}
 use Rattle.promises.specs.Growth.{grown, grownRun}
+use Rattle.promises.proofs.Frames.{pushed-length}
+
+-- one access of a frame that is served in the smaller memory
+module _ (m x : List ℕ) (a : ℕ) where
+  same-value : {v w : ℕ} → Loaded.Value v ≡ Loaded.Value w → v ≡ w
+  same-value e = cc
+
+  same-double : {v w : ℕ} → LoadedDouble.Value v ≡ LoadedDouble.Value w → v ≡ w
+  same-double e = cc
+
+  served-past : (n : ℕ) → accessOf (length m) a n ≡ Access.Served → reachesPast (accessOf (length m) a n) ≡ false
+  served-past n e = rw e
+
+  served-grow : (n : ℕ) → accessOf (length m) a n ≡ Access.Served → accessOf (length (m ++ x)) a n ≡ Access.Served
+  served-grow n e = access-grow m x a n (served-past n e) ∙ e
+
+  word-grow : accessOf (length m) a 4 ≡ Access.Served → valueAt Width.Word (m ++ x) a ≡ valueAt Width.Word m a
+  unfolding loadOf
+  word-grow e = same-value (rw (served-grow 4 e, e) at (load-grow m x a Width.Word (served-past 4 e)))
+
+  double-grow : accessOf (length m) a 8 ≡ Access.Served → doubleAt (m ++ x) a ≡ doubleAt m a
+  unfolding loadDoubleOf
+  double-grow e = same-double (rw (served-grow 8 e, e) at (load-double-grow m x a (served-past 8 e)))
+
+module _ (op : StackOp) (ra : ℕ) (y : Part) (s : State) (m x : List ℕ) (e : accessOf (length m) (addressOf y) (sizeOf y) ≡ Access.Served) where
+  part-state : stateAfter op ra y s (m ++ x) ≡ stateAfter op ra y s m
+  part-state = state-cases op y e
+    where
+      state-cases : (op : StackOp) (y : Part) → accessOf (length m) (addressOf y) (sizeOf y) ≡ Access.Served → stateAfter op ra y s (m ++ x) ≡ stateAfter op ra y s m
+      state-cases StackOp.Lsku (pair n a) h = rw (double-grow m x a h)
+      state-cases StackOp.Lsku (link a) h = rw (word-grow m x a h)
+      state-cases StackOp.Lsku (back a) h = refl
+      state-cases StackOp.Stsku y h = refl
+
+  part-memory : memoryAfter op ra y s (m ++ x) ≡ memoryAfter op ra y s m ++ x
+  part-memory = memory-cases op
+    where
+      memory-cases : (op : StackOp) → memoryAfter op ra y s (m ++ x) ≡ memoryAfter op ra y s m ++ x
+      memory-cases StackOp.Lsku = refl
+      memory-cases StackOp.Stsku = sets-grow (pushed ra y s) m x (addressOf y) (rw (pushed-length ra y s) (served-inside (length m) (addressOf y) (sizeOf y) e))
+
+framed-grow : (p : Profile) (op : StackOp) (ra sp ea : ℕ) (x : List ℕ) (ys : List Part) (s : State) (m : List ℕ) → framedOf p op ra sp ea ys s m .past ≡ false
+    → framedOf p op ra sp ea ys s (m ++ x) ≡ grown x (framedOf p op ra sp ea ys s m)
+unfolding framedOf
+framed-grow p op ra sp ea x [] s m h = refl
+framed-grow p op ra sp ea x (y ∷ ys) s m h =
+    go (accessOf (length m) (addressOf y) (sizeOf y)) refl (framed-grow p op ra sp ea x ys (stateAfter op ra y s m) (memoryAfter op ra y s m)) h
+  where
+    rest : List ℕ → After
+    rest n = framedOf p op ra sp ea ys (stateAfter op ra y s n) (memoryAfter op ra y s n)
+
+    grew : (k : Access) → accessOf (length m) (addressOf y) (sizeOf y) ≡ k → reachesPast k ≡ false → accessOf (length (m ++ x)) (addressOf y) (sizeOf y) ≡ k
+    grew k e f = access-grow m x (addressOf y) (sizeOf y) (rw e f) ∙ e
+
+    go : (k : Access) → accessOf (length m) (addressOf y) (sizeOf y) ≡ k → (rest m .past ≡ false → framedOf p op ra sp ea ys (stateAfter op ra y s m) (memoryAfter op ra y s m ++ x) ≡ grown x (rest m))
+        → goesOn p s m (storesOf op) (addressOf y) k (rest m) .past ≡ false
+        → goesOn p s (m ++ x) (storesOf op) (addressOf y) (accessOf (length (m ++ x)) (addressOf y) (sizeOf y)) (rest (m ++ x)) ≡ grown x (goesOn p s m (storesOf op) (addressOf y) k (rest m))
+    go Access.Served e next f = rw (grew Access.Served e refl, part-state op ra y s m x e, part-memory op ra y s m x e) (next f)
+    go Access.Unaligned e next f = rw (grew Access.Unaligned e refl)
+    go Access.Outside e next f = never f
+
+stack-grow : (p : Profile) (s : State) (m x : List ℕ) (op : StackOp) (ra dd : ℕ) → stackOf p s m op ra dd .past ≡ false → stackOf p s (m ++ x) op ra dd ≡ grown x (stackOf p s m op ra dd)
+unfolding stackOf
+stack-grow p s m x op ra dd h = go (alignedOf (gprOf s ra) 8) h
+  where
+    frame : List ℕ → After
+    frame n = framedOf p op ra (gprOf s ra) (frameEa s ra dd) (partsOf op (gprOf s ra) (frameEa s ra dd) (doublewords op dd)) s n
+
+    unaligned : List ℕ → After
+    unaligned n = plain (interruptedOf p s (Cause.Alignment (gprOf s ra) (storesOf op))) n
+
+    go : (b : Bool) → pick b (frame m) (unaligned m) .past ≡ false → pick b (frame (m ++ x)) (unaligned (m ++ x)) ≡ grown x (pick b (frame m) (unaligned m))
+    go true f = framed-grow p op ra _ _ x _ s m f
+    go false f = refl
 
 module _ (p : Profile) (s : State) (m x : List ℕ) where
   load-at-grow : (w : Width) (rt ea : ℕ) (u : Bool) (ra : ℕ) → loadAt p s m w rt ea u ra .past ≡ false
@@ -83,6 +163,7 @@ module _ (p : Profile) (s : State) (m x : List ℕ) where
   execute-grow w (Instr.Compare i) h = refl
   execute-grow w (Instr.Rotate i) h = refl
   execute-grow w (Instr.LoadStore i) h = load-store-grow i h
+  execute-grow w (Instr.Stack dd op rt ra) h = stack-grow p s m x op ra dd h
   execute-grow w (Instr.Branch i) h = refl
   execute-grow w (Instr.Trap to ra rb tg) h = refl
   execute-grow w (Instr.System i) h = refl

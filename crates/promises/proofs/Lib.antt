@@ -1,4 +1,5 @@
 -- The demands as theorems.
+pub mod Frames
 pub mod Grow
 pub mod Faults
 pub mod Reaches

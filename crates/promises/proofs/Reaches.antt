@@ -7,12 +7,13 @@ use mathlib.Core.Path.{_≡_, refl, ap, sym, _∙_}
 use mathlib.Core.List.{List, [], _∷_, _++_, append-assoc}
 use mathlib.Core.Logic.{_⊎_, inl, inr, ⊎-elim}
 use lib.Dec.{eqb, lit<}
-use lib.ListN.{length, getD, set, take, drop, replicate, List·getD-append}
-use lib.Seq.{sets, sets-eq, getD-set-other, getD-append-add, length-take-le}
+use lib.ListN.{length, getD, set, take, drop, replicate, length-set, List·getD-append}
+use lib.Seq.{sets, sets-eq, getD-set-same, getD-set-other, getD-append-add, length-take-le}
+use borrow.Author.Tests.{eqb-true, eqb-false}
 use Rattle.word.specs.Bits.{bitAt}
 use Rattle.word.specs.Width.{bytes}
 use Rattle.word.specs.declared.width.Width.{Width}
-use Rattle.memory.specs.Access.{pick, accessOf, fetchAccessOf}
+use Rattle.memory.specs.Access.{pick, alignedOf, accessOf, fetchAccessOf}
 use Rattle.memory.specs.Load.{valueAt, doubleAt, loaded, loadOf, loadedDouble, loadDoubleOf, fetchOf}
 use Rattle.memory.specs.Store.{bytesOf, doubleBytes, written, storedOf, storedDoubleOf, blockAt, clearedOf}
 use Rattle.memory.specs.declared.access.Access.{Access}
@@ -24,20 +25,24 @@ use Rattle.insn.specs.Read.{decodeOn}
 use Rattle.insn.specs.declared.instr.Instr.{Instr}
 use Rattle.insn.specs.declared.instr.Decoded.{Decoded}
 use Rattle.insn.specs.declared.instr.LoadStore.{LoadStore}
+use Rattle.insn.specs.declared.instr.StackOp.{StackOp}
 use Rattle.insn.specs.declared.instr.CacheOp.{CacheOp}
 use Rattle.insn.specs.declared.profile.Profile.{Profile}
 use Rattle.machine.specs.State.{gprOf, vdrOf}
 use Rattle.machine.specs.After.{After, plain}
 use Rattle.machine.specs.LoadStore.{offsetEa, indexedEa, loadAt, storeAt, loadDoubleAt, storeDoubleAt, loadStoreOf}
 use Rattle.machine.specs.Cache.{clearAt, cacheOf}
+use Rattle.machine.specs.Stack.{Part, pair, link, back, addressOf, sizeOf, frameEa, partsOf, popped, pushed, goesOn, framedOf, stackOf}
 use Rattle.machine.specs.Interrupt.{enteredOf}
 use Rattle.machine.specs.Timer.{tickedOf, actsOf, actedOf}
 use Rattle.machine.specs.Step.{executeOf, decodedOf, fetchedOf, runningOf, awakeOf, highestOf, interruptibleOf, countedOf, stepOf}
 use Rattle.machine.specs.declared.state.State.{State}
 use Rattle.machine.specs.declared.step.Pending.{Pending}
-use Rattle.tell.specs.Uses.{loadStoreUse, cacheUse, executeUse, decodedUse, fetchedUse, free, executes}
+use Rattle.machine.proofs.Frames.{pop-memory, part-length}
+use Rattle.tell.specs.Uses.{loadStoreUse, stackUse, cacheUse, executeUse, decodedUse, fetchedUse, free, executes}
 use Rattle.tell.specs.declared.uses.Use.{Use}
-use Rattle.promises.specs.Reach.{Span, touched, touchedAt, fetchedAt, readBy, writtenBy, runningReads, runningWrites, readsOf, writesOf, Inside, Misses, Agree, Alike}
+use Rattle.promises.specs.Reach.{Span, touched, touchedAt, fetchedAt, spanOf, whileServed, servedOf, frameSpans, readBy, writtenBy, runningReads, runningWrites, readsOf, writesOf, Inside, Misses, Agree, Alike}
+use Rattle.promises.proofs.Frames.{pushed-length}
 
 -- ---- inside
 
@@ -56,14 +61,29 @@ both-inside : (n : ℕ) (xs ys : List Span) → Inside n xs → Inside n ys → 
 both-inside n [] ys h k = k
 both-inside n (x ∷ xs) ys h k = (h .0, both-inside n xs ys (h .1) k)
 
+picked-inside : (n : ℕ) (b : Bool) (xs : List Span) → Inside n xs → Inside n (pick b xs [])
+picked-inside n true xs h = h
+picked-inside n false xs h = tt
+
+while-inside : (m : ℕ) (x : Span) (xs : List Span) (k : Access) → (k ≡ Access.Served → x .at + x .size ≤ m) → Inside m xs → Inside m (whileServed k x xs)
+while-inside m x xs Access.Served e h = (e refl, h)
+while-inside m x xs Access.Unaligned e h = tt
+while-inside m x xs Access.Outside e h = tt
+
+parts-inside : (m : ℕ) (xs : List Part) → Inside m (servedOf m xs)
+unfolding servedOf
+parts-inside m [] = tt
+parts-inside m (x ∷ xs) = while-inside m (spanOf x) (servedOf m xs) (accessOf m (addressOf x) (sizeOf x)) (served-inside m (addressOf x) (sizeOf x)) (parts-inside m xs)
+
+frame-inside : (m : ℕ) (op : StackOp) (sp ea n : ℕ) → Inside m (frameSpans m op sp ea n)
+frame-inside m op sp ea n = picked-inside m (alignedOf sp 8) (servedOf m (partsOf op sp ea n)) (parts-inside m (partsOf op sp ea n))
+
 use-inside : (m : List ℕ) (u : Use) → Inside (length m) (readBy m u) × Inside (length m) (writtenBy m u)
 use-inside m Use.Idle = (tt, tt)
 use-inside m (Use.Reads a n) = (at-inside m a n, tt)
 use-inside m (Use.Writes a n) = (tt, at-inside m a n)
-
-picked-inside : (n : ℕ) (b : Bool) (xs : List Span) → Inside n xs → Inside n (pick b xs [])
-picked-inside n true xs h = h
-picked-inside n false xs h = tt
+use-inside m (Use.Pops sp ea n) = (frame-inside (length m) StackOp.Lsku sp ea n, tt)
+use-inside m (Use.Pushes sp ea n) = (tt, frame-inside (length m) StackOp.Stsku sp ea n)
 
 -- no access goes beyond the memory lent
 pub reads-inside : (p : Profile) (s : State) (m : List ℕ) (e : ℕ) → Inside (length m) (readsOf p s m e)
@@ -93,6 +113,24 @@ written-other m a k bs Access.Served h = sets-other bs m a k (h .0)
 written-other m a k bs Access.Unaligned h = refl
 written-other m a k bs Access.Outside h = refl
 
+-- an access that is not served ends the frame with the memory that it had
+goes-other : (p : Profile) (s : State) (m : List ℕ) (k : ℕ) (store : Bool) (a : ℕ) (c : Access) (u : After) → (c ≡ Access.Served → getD (u .mem) k 0 ≡ getD m k 0)
+    → getD (goesOn p s m store a c u .mem) k 0 ≡ getD m k 0
+goes-other p s m k store a Access.Served u f = f refl
+goes-other p s m k store a Access.Unaligned u f = refl
+goes-other p s m k store a Access.Outside u f = refl
+
+push-other : (p : Profile) (ra sp ea : ℕ) (s : State) (k : ℕ) (xs : List Part) (m : List ℕ) → Misses k (servedOf (length m) xs)
+    → getD (framedOf p StackOp.Stsku ra sp ea xs s m .mem) k 0 ≡ getD m k 0
+unfolding framedOf servedOf
+push-other p ra sp ea s k [] m h = refl
+push-other p ra sp ea s k (x ∷ xs) m h =
+    goes-other p s m k true (addressOf x) (accessOf (length m) (addressOf x) (sizeOf x)) _
+    (λ e.
+    let q : Misses k (spanOf x ∷ servedOf (length m) xs) = rw e at h in
+    push-other p ra sp ea s k xs (sets m (addressOf x) (pushed ra x s)) (rw (part-length StackOp.Stsku ra x s m) (q .1))
+    ∙ sets-other (pushed ra x s) m (addressOf x) k (rw (pushed-length ra x s) (q .0)))
+
 module _ (p : Profile) (s : State) (m : List ℕ) (k : ℕ) where
   store-other : (w : Width) (rs ea : ℕ) (u : Bool) (ra : ℕ) → Misses k (touchedAt m ea (bytes w)) → getD (storeAt p s m w rs ea u ra .mem) k 0 ≡ getD m k 0
   unfolding storeAt storedOf
@@ -114,6 +152,18 @@ module _ (p : Profile) (s : State) (m : List ℕ) (k : ℕ) where
   load-store-other (LoadStore.LoadDouble u dt ra d) h = refl
   load-store-other (LoadStore.StoreDouble u ds ra d) h = store-double-other ds (offsetEa s ra d) u ra h
 
+  -- a frame whose (RA) is not aligned leaves the memory
+  picked-other : (b : Bool) (t : State) (u : After) → (b ≡ true → getD (u .mem) k 0 ≡ getD m k 0) → getD (pick b u (plain t m) .mem) k 0 ≡ getD m k 0
+  picked-other true t u f = f refl
+  picked-other false t u f = refl
+
+  stack-other : (op : StackOp) (ra dd : ℕ) → Misses k (writtenBy m (stackUse s op ra dd)) → getD (stackOf p s m op ra dd .mem) k 0 ≡ getD m k 0
+  unfolding stackOf
+  stack-other StackOp.Lsku ra dd h =
+      picked-other (alignedOf (gprOf s ra) 8) _ _ (λ e. ap (λ (b : List ℕ). getD b k 0) (pop-memory p ra (gprOf s ra) (frameEa s ra dd) _ s m))
+  stack-other StackOp.Stsku ra dd h =
+      picked-other (alignedOf (gprOf s ra) 8) _ _ (λ e. push-other p ra (gprOf s ra) (frameEa s ra dd) s k _ m (rw e at h))
+
   cache-other : (op : CacheOp) (ra rb : ℕ) → Misses k (writtenBy m (cacheUse s op ra rb)) → getD (cacheOf p s m op ra rb .mem) k 0 ≡ getD m k 0
   unfolding cacheOf clearAt clearedOf
   cache-other CacheOp.Dcbf ra rb h = refl
@@ -128,6 +178,7 @@ module _ (p : Profile) (s : State) (m : List ℕ) (k : ℕ) where
   execute-other w (Instr.Compare i) h = refl
   execute-other w (Instr.Rotate i) h = refl
   execute-other w (Instr.LoadStore i) h = load-store-other i h
+  execute-other w (Instr.Stack dd op rt ra) h = stack-other op ra dd h
   execute-other w (Instr.Branch i) h = refl
   execute-other w (Instr.Trap to ra rb tg) h = refl
   execute-other w (Instr.System i) h = refl
@@ -242,13 +293,88 @@ sets-at bs m a k h l =
     rw (sets-eq bs m a h, append-assoc)
     (ap (λ (i : ℕ). getD (take a m ++ (bs ++ d)) (i + k) 0) (sym e) ∙ getD-append-add (take a m) (bs ++ d) k 0 ∙ List·getD-append bs d 0 k l)
 
+-- bytes that were set alike in two memories are the same
+sets-same : (bs m n : List ℕ) (a : ℕ) → length n ≡ length m → a + length bs ≤ length m → (k : ℕ) → k < length bs → getD (sets n a bs) (a + k) 0 ≡ getD (sets m a bs) (a + k) 0
+sets-same bs m n a l h k b = sets-at bs n a k (rw l h) b ∙ sym (sets-at bs m a k h b)
+
 written-same : (m n : List ℕ) (a : ℕ) (bs : List ℕ) (c : Access) → length n ≡ length m → accessOf (length m) a (length bs) ≡ c
     → Agree (written c m a bs) (written c n a bs) (touched c a (length bs))
-written-same m n a bs Access.Served l e =
-    let h = served-inside (length m) a (length bs) e in
-    (λ k b. sets-at bs n a k (rw l h) b ∙ sym (sets-at bs m a k h b), tt)
+written-same m n a bs Access.Served l e = (sets-same bs m n a l (served-inside (length m) a (length bs) e), tt)
 written-same m n a bs Access.Unaligned l e = tt
 written-same m n a bs Access.Outside l e = tt
+
+-- where two memories agree, they still do once the same bytes are set in both
+set-keeps : (m n : List ℕ) (a b k : ℕ) → length n ≡ length m → a < length m → getD n k 0 ≡ getD m k 0 → getD (set n a b) k 0 ≡ getD (set m a b) k 0
+set-keeps m n a b k l h e = go (eqb k a) refl
+  where
+    go : (c : Bool) → eqb k a ≡ c → getD (set n a b) k 0 ≡ getD (set m a b) k 0
+    go true q = rw (eqb-true k a q) (getD-set-same n a b 0 (omega arith) ∙ sym (getD-set-same m a b 0 h))
+    go false q = getD-set-other n a k b 0 (eqb-false k a q) ∙ e ∙ sym (getD-set-other m a k b 0 (eqb-false k a q))
+
+sets-keeps : (bs m n : List ℕ) (a k : ℕ) → length n ≡ length m → a + length bs ≤ length m → getD n k 0 ≡ getD m k 0 → getD (sets n a bs) k 0 ≡ getD (sets m a bs) k 0
+sets-keeps [] m n a k l h e = e
+sets-keeps (b ∷ bs) m n a k l h e =
+    let q : length (set n a b) ≡ length (set m a b) = simp length-set l in
+    sets-keeps bs (set m a b) (set n a b) (suc a) k q (rw length-set (omega arith)) (set-keeps m n a b k l (omega arith) e)
+
+-- two frames from the memories m and n on, that touch the spans xs: they do the same, and any byte that m and n have in common they leave in common
+record Goes (m n : List ℕ) (xs : List Span) (u v : After) : Type 0 where
+  same : Alike xs xs u v
+  keeps : (k : ℕ) → getD n k 0 ≡ getD m k 0 → getD (v .mem) k 0 ≡ getD (u .mem) k 0
+
+-- nothing is touched any more
+goes-end : (t : State) (m n : List ℕ) (past : Bool) → Goes m n [] (record { st = t; mem = m; past = past }) (record { st = t; mem = n; past = past })
+goes-end t m n past = record { same = record { st = refl; past = refl; places = refl; written = tt }; keeps = λ k e. e }
+
+-- an access of the span x first: it left the memories i and j, which agree in it
+goes-on : (m n i j : List ℕ) (x : Span) (xs : List Span) (u v : After) → Agree i j (x ∷ []) → ((k : ℕ) → getD n k 0 ≡ getD m k 0 → getD j k 0 ≡ getD i k 0) → Goes i j xs u v → Goes m n (x ∷ xs) u v
+goes-on m n i j x xs u v a f r =
+    record {
+      same = record { st = r .same .st; past = r .same .past; places = refl; written = (λ k b. r .keeps (x .at + k) (a .0 k b), r .same .written) };
+      keeps = λ k e. r .keeps k (f k e);
+    }
+
+-- an access that is not served ends both frames with one interrupt
+goes-same : (p : Profile) (s : State) (m n : List ℕ) (store : Bool) (a : ℕ) (c : Access) (x : Span) (xs : List Span) (u v : After) → (c ≡ Access.Served → Goes m n (x ∷ xs) u v)
+    → Goes m n (whileServed c x xs) (goesOn p s m store a c u) (goesOn p s n store a c v)
+goes-same p s m n store a Access.Served x xs u v f = f refl
+goes-same p s m n store a Access.Unaligned x xs u v f = goes-end _ m n false
+goes-same p s m n store a Access.Outside x xs u v f = goes-end _ m n true
+
+popped-same : (ra : ℕ) (x : Part) (s : State) (m n : List ℕ) → Agree m n (spanOf x ∷ []) → popped ra x n s ≡ popped ra x m s
+popped-same ra (pair i a) s m n h = rw (double-same m n a (h .0))
+popped-same ra (link a) s m n h = rw (value-same Width.Word m n a (h .0))
+popped-same ra (back a) s m n h = refl
+
+module _ (p : Profile) (ra sp ea : ℕ) where
+  pop-same : (m n : List ℕ) → length n ≡ length m → (xs : List Part) (s : State) → Agree m n (servedOf (length m) xs)
+      → Goes m n (servedOf (length m) xs) (framedOf p StackOp.Lsku ra sp ea xs s m) (framedOf p StackOp.Lsku ra sp ea xs s n)
+  unfolding framedOf servedOf
+  pop-same m n l [] s h = goes-end _ m n false
+  pop-same m n l (x ∷ xs) s h =
+      rw l
+      (goes-same p s m n false (addressOf x) (accessOf (length m) (addressOf x) (sizeOf x)) (spanOf x) (servedOf (length m) xs) _ _
+      (λ e.
+      let q : Agree m n (spanOf x ∷ servedOf (length m) xs) = rw e at h in
+      rw (popped-same ra x s m n (q .0, tt)) (goes-on m n m n (spanOf x) _ _ _ (q .0, tt) (λ k d. d) (pop-same m n l xs (popped ra x m s) (q .1)))))
+
+  push-same : (s : State) (xs : List Part) (m n : List ℕ) → length n ≡ length m
+      → Goes m n (servedOf (length m) xs) (framedOf p StackOp.Stsku ra sp ea xs s m) (framedOf p StackOp.Stsku ra sp ea xs s n)
+  unfolding framedOf servedOf
+  push-same s [] m n l = goes-end _ m n false
+  push-same s (x ∷ xs) m n l =
+      let a = addressOf x in
+      let bs = pushed ra x s in
+      let w : (b : List ℕ) → length (sets b a bs) ≡ length b = λ b. part-length StackOp.Stsku ra x s b in
+      rw l
+      (goes-same p s m n true a (accessOf (length m) a (sizeOf x)) (spanOf x) (servedOf (length m) xs) _ _
+      (λ e.
+      let h : a + length bs ≤ length m = rw (pushed-length ra x s) (served-inside (length m) a (sizeOf x) e) in
+      let r = push-same s xs (sets m a bs) (sets n a bs) (w n ∙ l ∙ sym (w m)) in
+      goes-on m n (sets m a bs) (sets n a bs) (spanOf x) _ _ _
+      (λ k b. sets-same bs m n a l h k (rw (pushed-length ra x s) b), tt)
+      (λ k d. sets-keeps bs m n a k l h d)
+      (rw (w m) at r)))
 
 module _ (p : Profile) (m n : List ℕ) (l : length n ≡ length m) where
   load-same : (a : ℕ) (w : Width) → Agree m n (touchedAt m a (bytes w)) → loadOf n a w ≡ loadOf m a w
@@ -266,6 +392,11 @@ module _ (p : Profile) (m n : List ℕ) (l : length n ≡ length m) where
   -- an instruction that asks nothing of the memory
   plain-same : (t : State) → Alike [] [] (plain t m) (plain t n)
   plain-same t = record { st = refl; past = refl; places = refl; written = tt }
+
+  -- a frame whose (RA) is not aligned touches nothing
+  picked-same : (b : Bool) (t : State) (xs : List Span) (u v : After) → (b ≡ true → Alike xs xs u v) → Alike (pick b xs []) (pick b xs []) (pick b u (plain t m)) (pick b v (plain t n))
+  picked-same true t xs u v f = f refl
+  picked-same false t xs u v f = plain-same t
 
   module _ (s : State) where
     load-at-same : (w : Width) (rt ea : ℕ) (u : Bool) (ra : ℕ) → Agree m n (touchedAt m ea (bytes w)) → Alike [] [] (loadAt p s m w rt ea u ra) (loadAt p s n w rt ea u ra)
@@ -307,6 +438,15 @@ module _ (p : Profile) (m n : List ℕ) (l : length n ≡ length m) where
     load-store-same (LoadStore.LoadDouble u dt ra d) h = load-double-at-same dt (offsetEa s ra d) u ra h
     load-store-same (LoadStore.StoreDouble u ds ra d) h = store-double-at-same ds (offsetEa s ra d) u ra
 
+    stack-same : (op : StackOp) (ra dd : ℕ) → Agree m n (readBy m (stackUse s op ra dd))
+        → Alike (writtenBy m (stackUse s op ra dd)) (writtenBy n (stackUse s op ra dd)) (stackOf p s m op ra dd) (stackOf p s n op ra dd)
+    unfolding stackOf
+    stack-same StackOp.Lsku ra dd h =
+        let r = picked-same (alignedOf (gprOf s ra) 8) _ _ _ _ (λ e. pop-same p ra (gprOf s ra) (frameEa s ra dd) m n l _ s (rw e at h) .same) in
+        record { st = r .st; past = r .past; places = refl; written = tt }
+    stack-same StackOp.Stsku ra dd h =
+        rw l (picked-same (alignedOf (gprOf s ra) 8) _ _ _ _ (λ e. push-same p ra (gprOf s ra) (frameEa s ra dd) s _ m n l .same))
+
     cache-same : (op : CacheOp) (ra rb : ℕ) → Alike (writtenBy m (cacheUse s op ra rb)) (writtenBy n (cacheUse s op ra rb)) (cacheOf p s m op ra rb) (cacheOf p s n op ra rb)
     unfolding cacheOf
     cache-same CacheOp.Dcbf ra rb = plain-same _
@@ -321,6 +461,7 @@ module _ (p : Profile) (m n : List ℕ) (l : length n ≡ length m) where
     execute-same w (Instr.Compare i) h = plain-same _
     execute-same w (Instr.Rotate i) h = plain-same _
     execute-same w (Instr.LoadStore i) h = load-store-same i h
+    execute-same w (Instr.Stack dd op rt ra) h = stack-same op ra dd h
     execute-same w (Instr.Branch i) h = plain-same _
     execute-same w (Instr.Trap to ra rb tg) h = plain-same _
     execute-same w (Instr.System i) h = plain-same _

@@ -14,7 +14,7 @@ use Rattle.word.specs.Bits.{bitAt}
 use Rattle.word.specs.Rotate.{mask, putAt}
 use Rattle.word.specs.Width.{bytes}
 use Rattle.word.specs.declared.width.Width.{Width}
-use Rattle.word.proofs.Truth.{never, or-false}
+use Rattle.word.proofs.Truth.{never, and-true, or-false}
 use Rattle.word.proofs.ByBits.{xor, bit-and, bit-xor, word-is}
 use Rattle.memory.specs.Access.{pick, accessOf, fetchAccessOf, sizedOf}
 use Rattle.memory.specs.Load.{valueAt, loaded, loadOf, loadedDouble, loadDoubleOf, fetchOf}
@@ -22,7 +22,8 @@ use Rattle.memory.specs.Store.{bytesOf, blockAt}
 use Rattle.memory.specs.declared.access.Access.{Access}
 use Rattle.memory.specs.declared.load.Loaded.{Loaded}
 use Rattle.insn.specs.Fields.{fieldsOf}
-use Rattle.insn.specs.Valid.{regOf}
+use Rattle.insn.specs.Valid.{regOf, validOf}
+use Rattle.insn.specs.Profile.{has}
 use Rattle.insn.specs.Read.{decodeOf, decodeOn, primary, primaryRows, loadStore, loadStoreRows, added, addedRows, arithmetic, arithmeticRows, logical, logicalRows, storage, storageRows, system, systemRows}
 use Rattle.insn.specs.declared.profile.Profile.{Profile}
 use Rattle.insn.specs.declared.instr.Instr.{Instr}
@@ -32,7 +33,7 @@ use Rattle.insn.specs.declared.instr.System.{System}
 use Rattle.insn.specs.declared.instr.SprOp.{SprOp}
 use Rattle.insn.specs.declared.instr.MoveOp.{MoveOp}
 use Rattle.insn.specs.declared.instr.CacheOp.{CacheOp}
-use Rattle.insn.proofs.Round.{read-on-42x}
+use Rattle.insn.proofs.Round.{read-on-42x, read-written-on}
 use Rattle.machine.specs.State.{gprOf, with, registers}
 use Rattle.machine.specs.Refusal.{unless}
 use Rattle.machine.specs.Register.{definedOf, cleanOf, soundOf, refusalOf, startRefusal}
@@ -258,24 +259,25 @@ module _ (s : State) (m : List ℕ) where
   system-same System.Rfi h = refl
   system-same System.Sync h = refl
 
-  execute-same : (w : ℕ) (i : Instr) → Fair s (executeRaises Profile.Ppe42 s m w i) → setsTg i ≡ false → instrWrites s i ≡ false
+  execute-same : (w : ℕ) (i : Instr) → has Profile.Ppe42 i ≡ true → Fair s (executeRaises Profile.Ppe42 s m w i) → setsTg i ≡ false → instrWrites s i ≡ false
       → executeOf Profile.Ppe42x s m w i ≡ executeOf Profile.Ppe42 s m w i
   unfolding executeOf trapOf
-  execute-same w (Instr.Arithmetic i) f t u = refl
-  execute-same w (Instr.Logical i) f t u = refl
-  execute-same w (Instr.Compare i) f t u = refl
-  execute-same w (Instr.Rotate i) f t u = refl
-  execute-same w (Instr.LoadStore i) f t u = load-store-same i f
-  execute-same w (Instr.Branch i) f t u = refl
-  execute-same w (Instr.Trap to ra rb true) f t u = never t
-  execute-same w (Instr.Trap to ra rb false) f t u = leaving m false (trap-cases w (eqb to 0 || false) (bitAt (s .dbcr) 7) _ _ f)
-  execute-same w (Instr.System i) f t u = leaving m false (system-same i u)
-  execute-same w (Instr.Cache op hint ra rb) f t u = cache-same op ra rb f
+  execute-same w (Instr.Arithmetic i) o f t u = refl
+  execute-same w (Instr.Logical i) o f t u = refl
+  execute-same w (Instr.Compare i) o f t u = refl
+  execute-same w (Instr.Rotate i) o f t u = refl
+  execute-same w (Instr.LoadStore i) o f t u = load-store-same i f
+  execute-same w (Instr.Stack dd op rt ra) o f t u = never (sym o)
+  execute-same w (Instr.Branch i) o f t u = refl
+  execute-same w (Instr.Trap to ra rb true) o f t u = never t
+  execute-same w (Instr.Trap to ra rb false) o f t u = leaving m false (trap-cases w (eqb to 0 || false) (bitAt (s .dbcr) 7) _ _ f)
+  execute-same w (Instr.System i) o f t u = leaving m false (system-same i u)
+  execute-same w (Instr.Cache op hint ra rb) o f t u = cache-same op ra rb f
 
   -- what the 42 reads, the 42X reads as the same
   decoded-same : (w : ℕ) (d : Decoded) → decodeOn Profile.Ppe42 w ≡ d → isIllegal d ≡ false → Fair s (decodedRaises Profile.Ppe42 s m w d) → ofInstr setsTg d ≡ false
       → ofInstr (instrWrites s) d ≡ false → decodedOf Profile.Ppe42x s m w (decodeOn Profile.Ppe42x w) ≡ decodedOf Profile.Ppe42 s m w d
-  decoded-same w (Decoded.Insn i) e l f t u = rw (read-on-42x w i e) (execute-same w i f t u)
+  decoded-same w (Decoded.Insn i) e l f t u = rw (read-on-42x w i e) (execute-same w i (and-true (has Profile.Ppe42 i) (validOf i) (read-written-on Profile.Ppe42 w i e .0) .0) f t u)
   decoded-same w Decoded.Illegal e l f t u = never l
 
   fetched-same : (k : Loaded) → ofWord isIllegal k ≡ false → Fair s (fetchedRaises Profile.Ppe42 s m k) → ofWord (ofInstr setsTg) k ≡ false → ofWord (ofInstr (instrWrites s)) k ≡ false

@@ -3,6 +3,7 @@ use Prim.Native.Nat.{ℕ, _%_, _≤_}
 use native.Mathlib.Omega.{arith}
 use mathlib.Core.Bool.{Bool, true, false, _&&_, _||_, cond}
 use mathlib.Core.Path.{_≡_, refl, ap, sym, _∙_}
+use mathlib.Core.List.{List}
 use lib.Bits.{bitAnd, and-mask}
 use lib.Dec.{lit≤, eqb}
 use borrow.Author.Tests.{eqb-true, eq-eqb, leb-true, le-leb}
@@ -12,8 +13,10 @@ use Rattle.word.specs.Compare.{recorded}
 use Rattle.word.specs.Double.{recorded64}
 use Rattle.word.specs.Rotate.{wordOf, mask, putAt}
 use Rattle.word.specs.declared.sum.Sum.{Sum}
+use Rattle.word.specs.declared.width.Width.{Width}
 use Rattle.word.specs.declared.shift.Shifted.{Shifted}
 use Rattle.memory.specs.Access.{pick}
+use Rattle.memory.specs.Load.{valueAt}
 use Rattle.memory.specs.declared.access.Access.{Access}
 use Rattle.memory.specs.declared.load.Loaded.{Loaded}
 use Rattle.memory.specs.declared.load.LoadedDouble.{LoadedDouble}
@@ -23,11 +26,13 @@ use Rattle.insn.specs.declared.instr.Logical.{Logical}
 use Rattle.insn.specs.declared.instr.Compare.{Compare}
 use Rattle.insn.specs.declared.instr.Rotate.{Rotate}
 use Rattle.insn.specs.declared.instr.ShiftOp.{ShiftOp}
+use Rattle.insn.specs.declared.instr.StackOp.{StackOp}
 use Rattle.insn.specs.declared.instr.Branch.{Branch}
 use Rattle.insn.specs.declared.instr.BranchOp.{BranchOp}
 use Rattle.insn.specs.declared.instr.System.{System}
 use Rattle.insn.specs.declared.instr.SprOp.{SprOp}
 use Rattle.insn.specs.declared.instr.MoveOp.{MoveOp}
+use Rattle.insn.specs.Valid.{pairedWith}
 use Rattle.insn.specs.Profile.{is42x}
 use Rattle.insn.specs.declared.profile.Profile.{Profile}
 use Rattle.machine.specs.State.{gprOf, with, withGpr, withVdr}
@@ -41,6 +46,7 @@ use Rattle.machine.specs.Logical.{logicalOf}
 use Rattle.machine.specs.Compare.{comparedOf, compareOf}
 use Rattle.machine.specs.Rotate.{shiftedOf, shiftOf, rotateOf}
 use Rattle.machine.specs.LoadStore.{updatedOf, loadedState, storedState, loadedDoubleState}
+use Rattle.machine.specs.Stack.{Part, pair, link, back, readGpr, stateAfter}
 use Rattle.machine.specs.Branch.{targetAt, linkedOf, ctrAfter, takenOf, branchedOf, registerTarget, branchOf}
 use Rattle.machine.specs.Cache.{clearedState}
 use Rattle.machine.specs.System.{trapOf, sprOf, resetOf, dbcrWritten, decWritten, isrWritten, tsrWritten, written, sprWritten, enabledOf, movedOf, returnedOf, systemOf}
@@ -403,6 +409,14 @@ module _ {p : Profile} {s : State} (k : Sound p s) where
   loaded-double-sound LoadedDouble.Unaligned dt update ra ea = interrupted-sound k (Cause.Alignment ea false)
   loaded-double-sound LoadedDouble.Outside dt update ra ea = interrupted-sound k (Cause.DataStorage ea false)
 
+  -- lsku and stsku, access by access and at their end
+  read-sound : (ra n v : ℕ) → Sound p (readGpr s ra n v)
+  read-sound ra n v = picked (Sound p) (eqb n ra) k (gpr-sound k n v)
+
+  pub framed-sound : (ra ea edr : ℕ) → Sound p (nextOf (withGpr (with s Reg.Edr edr) ra ea))
+  unfolding with
+  framed-sound ra ea edr = next-sound (gpr-sound (with-sound k Reg.Edr (clean-any edr) (k .halt)) ra ea)
+
   pub stored-sound : (a : Access) (update : Bool) (ra ea : ℕ) → Sound p (storedState p s a update ra ea)
   stored-sound Access.Served update ra ea = next-sound (updated-sound k update ra ea)
   stored-sound Access.Unaligned update ra ea = interrupted-sound k (Cause.Alignment ea true)
@@ -412,3 +426,10 @@ module _ {p : Profile} {s : State} (k : Sound p s) where
   cleared-sound Access.Served ea = next-sound k
   cleared-sound Access.Unaligned ea = interrupted-sound k (Cause.Alignment ea true)
   cleared-sound Access.Outside ea = interrupted-sound k (Cause.DataStorage ea true)
+
+pub part-sound : {p : Profile} {s : State} → Sound p s → (op : StackOp) (ra : ℕ) (x : Part) (m : List ℕ) → Sound p (stateAfter op ra x s m)
+unfolding with
+part-sound k StackOp.Lsku ra (pair n a) m = read-sound (read-sound k ra n _) ra (pairedWith n) _
+part-sound k StackOp.Lsku ra (link a) m = with-sound k Reg.Lr (clean-any (valueAt Width.Word m a)) (k .halt)
+part-sound k StackOp.Lsku ra (back a) m = k
+part-sound k StackOp.Stsku ra x m = k

@@ -1,18 +1,20 @@
 -- What is told of a step is what the step does, and the access that is told is all that it writes. Assumes nothing.
 use Prim.Native.Nat.{ℕ, _+_, _<_, _≤_}
 use mathlib.Core.Bool.{Bool, true, false, _&&_}
-use mathlib.Core.List.{List, []}
+use mathlib.Core.List.{List, [], _∷_}
 use mathlib.Core.Path.{_≡_, refl}
 use mathlib.Core.Logic.{_⊎_}
 use lib.Dec.{eqb, lit≤}
 use lib.ListN.{length}
 use lib.Seq.{ext-getD}
 use Rattle.word.specs.Bits.{bitAt}
-use Rattle.memory.specs.Access.{pick, accessOf}
+use Rattle.memory.specs.Access.{pick, alignedOf, accessOf}
 use Rattle.memory.specs.Load.{fetchOf}
 use Rattle.memory.specs.declared.access.Access.{Access}
+use Rattle.insn.specs.declared.instr.StackOp.{StackOp}
 use Rattle.insn.specs.declared.profile.Profile.{Profile}
 use Rattle.machine.specs.After.{plain}
+use Rattle.machine.specs.Stack.{Part, addressOf, sizeOf, partsOf}
 use Rattle.machine.specs.Timer.{externalIn, tickedOf, actsOf, actedOf}
 use Rattle.machine.specs.Step.{runningOf, awakeOf, highestOf, interruptibleOf, countedOf, stepOf}
 use Rattle.machine.specs.declared.state.State.{State}
@@ -24,7 +26,7 @@ use Rattle.tell.specs.Told.{runningTold, interruptibleTold, toldOf, vectorCode}
 use Rattle.tell.specs.declared.fault.Raised.{Raised}
 use Rattle.tell.specs.declared.told.Told.{Told}
 use Rattle.tell.specs.declared.uses.Use.{Use}
-use Rattle.promises.specs.Reach.{touched, writtenBy, runningWrites, writesOf, Misses}
+use Rattle.promises.specs.Reach.{touched, spanOf, spansOf, whileServed, servedOf, writtenBy, runningWrites, writesOf, Misses}
 use Rattle.promises.specs.Told.{Does, Spares}
 use Rattle.promises.proofs.Sound.{picked}
 use Rattle.promises.proofs.Accepted.{step-length}
@@ -75,6 +77,21 @@ module _ (p : Profile) (s : State) (m : List ℕ) (e : ℕ) where
   misses-told i a n Access.Unaligned h = tt
   misses-told i a n Access.Outside h = tt
 
+  -- what is outside all accesses of a frame is outside those that were served
+  misses-served : (i len : ℕ) (xs : List Part) → Misses i (spansOf xs) → Misses i (servedOf len xs)
+  unfolding spansOf servedOf
+  misses-served i len [] h = tt
+  misses-served i len (x ∷ xs) h = go (accessOf len (addressOf x) (sizeOf x)) (misses-served i len xs (h .1))
+    where
+      go : (k : Access) → Misses i (servedOf len xs) → Misses i (whileServed k (spanOf x) (servedOf len xs))
+      go Access.Served q = (h .0, q)
+      go Access.Unaligned q = tt
+      go Access.Outside q = tt
+
+  misses-frame : (i len : ℕ) (b : Bool) (xs : List Part) → Misses i (spansOf xs) → Misses i (pick b (servedOf len xs) [])
+  misses-frame i len true xs h = misses-served i len xs h
+  misses-frame i len false xs h = tt
+
   same : ((i : ℕ) → Misses i (writesOf p s m e)) → stepOf p s m e .mem ≡ m
   same h = ext-getD 0 (stepOf p s m e .mem) m (step-length p s m e) (λ i l. writes-only p s m e i (h i))
 
@@ -82,6 +99,8 @@ module _ (p : Profile) (s : State) (m : List ℕ) (e : ℕ) where
   spares-cases Use.Idle q = same (λ i. rw q tt)
   spares-cases (Use.Reads a n) q = same (λ i. rw q tt)
   spares-cases (Use.Writes a n) q = λ i h. writes-only p s m e i (rw q (misses-told i a n (accessOf (length m) a n) h))
+  spares-cases (Use.Pops sp ea n) q = same (λ i. rw q tt)
+  spares-cases (Use.Pushes sp ea n) q = λ i h. writes-only p s m e i (rw q (misses-frame i (length m) (alignedOf sp 8) (partsOf StackOp.Stsku sp ea n) h))
 
   -- a step changes no byte outside the access that is told, and none where that does not write
   pub use-true : Spares m (useOf p s m e) (stepOf p s m e .mem)

@@ -1,14 +1,16 @@
--- What a step reads and writes: the bytes of lent memory that its fetch and its data access touch.
+-- What a step reads and writes: the bytes of lent memory that its fetch and its data access, or those of its stack frame, touch.
 use Prim.Native.Nat.{ℕ, _+_, _<_, _≤_}
 use mathlib.Core.List.{List, [], _∷_, _++_}
 use mathlib.Core.Path.{_≡_}
 use mathlib.Core.Logic.{_⊎_}
 use lib.ListN.{length, getD}
-use Rattle.memory.specs.Access.{pick, accessOf, fetchAccessOf}
+use Rattle.memory.specs.Access.{pick, alignedOf, accessOf, fetchAccessOf}
 use Rattle.memory.specs.Load.{fetchOf}
 use Rattle.memory.specs.declared.access.Access.{Access}
+use Rattle.insn.specs.declared.instr.StackOp.{StackOp}
 use Rattle.insn.specs.declared.profile.Profile.{Profile}
 use Rattle.machine.specs.After.{After}
+use Rattle.machine.specs.Stack.{Part, addressOf, sizeOf, partsOf}
 use Rattle.machine.specs.Timer.{tickedOf}
 use Rattle.machine.specs.declared.state.State.{State}
 use Rattle.tell.specs.Uses.{fetchedUse, executes}
@@ -31,15 +33,40 @@ touchedAt m a n = touched (accessOf (length m) a n) a n
 abbrev pub fetchedAt : List ℕ → ℕ → List Span
 fetchedAt m a = touched (fetchAccessOf (length m) a) a 4
 
+-- the accesses of a frame, and those of them that were served: all before the first that was not
+abbrev pub spanOf : Part → Span
+spanOf x = record { at = addressOf x; size = sizeOf x }
+
+unfoldable pub spansOf : List Part → List Span
+spansOf [] = []
+spansOf (x ∷ xs) = spanOf x ∷ spansOf xs
+
+abbrev pub whileServed : Access → Span → List Span → List Span
+whileServed Access.Served x xs = x ∷ xs
+whileServed Access.Unaligned x xs = []
+whileServed Access.Outside x xs = []
+
+unfoldable pub servedOf : ℕ → List Part → List Span
+servedOf len [] = []
+servedOf len (x ∷ xs) = whileServed (accessOf len (addressOf x) (sizeOf x)) (spanOf x) (servedOf len xs)
+
+-- none is tried where (RA) is not doubleword-aligned (9.4.45, 9.4.89)
+abbrev pub frameSpans : ℕ → StackOp → ℕ → ℕ → ℕ → List Span
+frameSpans len op sp ea n = pick (alignedOf sp 8) (servedOf len (partsOf op sp ea n)) []
+
 abbrev pub readBy : List ℕ → Use → List Span
 readBy m Use.Idle = []
 readBy m (Use.Reads a n) = touchedAt m a n
 readBy m (Use.Writes a n) = []
+readBy m (Use.Pops sp ea n) = frameSpans (length m) StackOp.Lsku sp ea n
+readBy m (Use.Pushes sp ea n) = []
 
 abbrev pub writtenBy : List ℕ → Use → List Span
 writtenBy m Use.Idle = []
 writtenBy m (Use.Reads a n) = []
 writtenBy m (Use.Writes a n) = touchedAt m a n
+writtenBy m (Use.Pops sp ea n) = []
+writtenBy m (Use.Pushes sp ea n) = frameSpans (length m) StackOp.Stsku sp ea n
 
 -- line 6: the fetch, then what the instruction reads
 unfoldable pub runningReads : Profile → State → List ℕ → List Span
