@@ -1,6 +1,7 @@
 // The library's reader of words against GNU objdump. ./run joins the two halves.
-//   compare make    writes the words, big-endian
-//   compare check   reads objdump's listing of them, and explains where the two differ
+//   compare make [42x]    writes the words, big-endian
+//   compare check [42x]   reads objdump's listing of them, and explains where the two differ
+// With 42x the words are those that a 42X has otherwise than a 42, and it is the 42X that reads them.
 // Everything here is written from Power ISA 2.07 and the manual. A word that no rule below explains is an error.
 #include <inttypes.h>
 #include <stdbool.h>
@@ -11,7 +12,7 @@
 
 #include "ppe42.h"
 
-// A million words: 87 times 320 drawn, each with its 32 flips, and the rest of any kind.
+// A million words: 87 times 320 drawn, each with its 32 flips, and the rest of any kind. For the 42X: 8 times 320, and as many.
 enum { DRAWN = 320, ANY = 81280, SHOWN = 20 };
 
 #define BITS(from, to) (UINT32_MAX >> (from) & UINT32_MAX << (31 - (to)))
@@ -24,12 +25,12 @@ static _Noreturn void stop(const char *why) {
 
 static uint32_t field(uint32_t word, int from, int to) { return (word & BITS(from, to)) >> (31 - to); }
 
-// Which of the three places of a register hold one, whether D begins a pair, and what the ends of a mnemonic say.
-enum { D = 1, A = 2, B = 4, PAIR = 8 };
+// Which of the three places of a register hold one, whether D or A begins a pair, and what the ends of a mnemonic say.
+enum { D = 1, A = 2, B = 4, PAIR = 8, PAIR_A = 16 };
 enum ends { PLAIN, RC, OE_RC, LK, LK_AA };
 
 // What a form restricts beyond registers, CR fields and reserved bits.
-enum rule { NONE, LOAD_UPDATE, STORE_UPDATE, READ_SPR, WRITE_SPR, TRAP, TO_CTR, MOVE_CR };
+enum rule { NONE, LOAD_UPDATE, STORE_UPDATE, READ_SPR, WRITE_SPR, TRAP, TO_CTR, MOVE_CR, LOAD_FRAME, STORE_FRAME };
 
 // A form: the bits that name the instruction beside its primary opcode, its registers, the bits of a CR field that must
 // be 0, and its other operands. What is left over is reserved.
@@ -65,10 +66,14 @@ static const struct form
     FROM_SPR = {BITS(21, 30), D, 0, BITS(11, 20), PLAIN, READ_SPR},
     TO_SPR = {BITS(21, 30), D, 0, BITS(11, 20), PLAIN, WRITE_SPR},
     TO_CR = {BITS(21, 30), D, 0, BITS(12, 19), PLAIN, MOVE_CR},
-    TRAPPING = {BITS(21, 30), A | B, 0, BITS(6, 10) | BIT(31), PLAIN, TRAP};
+    TRAPPING = {BITS(21, 30), A | B, 0, BITS(6, 10) | BIT(31), PLAIN, TRAP},
+    PAIR_ROTATED = {BITS(27, 29), D | A | PAIR | PAIR_A, 0, BITS(16, 26) | BITS(30, 31), RC, NONE},
+    POPPING = {BITS(29, 30), D | A, 0, BITS(16, 28) | BIT(31), PLAIN, LOAD_FRAME},
+    PUSHING = {BITS(29, 30), D | A, 0, BITS(16, 28) | BIT(31), PLAIN, STORE_FRAME};
 
 // The 87 instructions by objdump's raw names, which say cmp, cmpl, cmpi, cmpli and mtcrf for cmpw, cmplw, cmpwi, cmplwi
-// and mtcr0. Opcodes are Power ISA's but for the doublewords, which Table 1.68 has.
+// and mtcr0; then the 7 that a 42X has besides. Opcodes are Power ISA's but for the doublewords, which Table 1.68 has, and the
+// frames, in Tables 1.69 and 1.71.
 static const struct row { const char *name; uint32_t primary, extended; const struct form *form; } rows[] = {
     {"add", 31, 266, &SUM}, {"addc", 31, 10, &SUM}, {"adde", 31, 138, &SUM},
     {"subf", 31, 40, &SUM}, {"subfc", 31, 8, &SUM}, {"subfe", 31, 136, &SUM},
@@ -98,11 +103,21 @@ static const struct row { const char *name; uint32_t primary, extended; const st
     {"mfcr", 31, 19, &ONE}, {"mfmsr", 31, 83, &ONE}, {"mtmsr", 31, 146, &ONE}, {"wrtee", 31, 131, &ONE},
     {"wrteei", 31, 163, &ENABLE}, {"rfi", 19, 50, &BARE}, {"sync", 31, 598, &BARE},
     {"mfspr", 31, 339, &FROM_SPR}, {"mtspr", 31, 467, &TO_SPR}, {"mtcrf", 31, 144, &TO_CR}, {"tw", 31, 4, &TRAPPING},
+    {"mulli", 7, 0, &IMMEDIATE}, {"mullw", 31, 235, &SUM},
+    {"rldicl", 30, 0, &PAIR_ROTATED}, {"rldicr", 30, 2, &PAIR_ROTATED}, {"rldimi", 30, 6, &PAIR_ROTATED},
+    {"lsku", 58, 1, &POPPING}, {"stsku", 62, 1, &PUSHING},
 };
 enum { ROWS = sizeof rows / sizeof *rows };
+_Static_assert(ROWS == 94, "87 instructions and 7");
+
+// How many of the rows a core has, which of them words are drawn of, and every name that they can bear; tw is the 87th.
+static const struct core { int rows, first, spellings; uint32_t (*legal)(uint32_t); }
+    CORE_42 = {87, 0, 148, ppe42_legal},
+    CORE_42X = {ROWS, 86, 161, ppe42x_legal};
+static const struct core *core = &CORE_42;
 
 static const struct row *row_of(uint32_t word) {
-    for (const struct row *row = rows; row < rows + ROWS; row++)
+    for (const struct row *row = rows; row < rows + core->rows; row++)
         if (field(word, 0, 5) == row->primary && (word & row->form->named) == row->extended << 1) return row;
     return NULL;
 }
@@ -119,9 +134,7 @@ static void name(uint32_t word, char text[16]) {
              ends == LK_AA && word & BIT(30) ? "a" : "");
 }
 
-// Every name that the 87 can bear.
-enum { SPELLINGS = 148 };
-static char spellings[SPELLINGS][16];
+static char spellings[256][16];
 static int spelled;
 
 static bool is_spelling(const char *text) {
@@ -133,14 +146,14 @@ static bool is_spelling(const char *text) {
 static void spell(void) {
     static const uint32_t ends[] = {0, BIT(21), BIT(30), BIT(31), BIT(21) | BIT(31), BIT(30) | BIT(31)};
     char text[16];
-    for (const struct row *row = rows; row < rows + ROWS; row++)
+    for (const struct row *row = rows; row < rows + core->rows; row++)
         for (size_t i = 0; i < sizeof ends / sizeof *ends; i++) {
             name(row->primary << 26 | row->extended << 1 | (ends[i] & row->form->operands), text);
             if (is_spelling(text)) continue;
-            if (spelled == SPELLINGS) stop("a name too many");
+            if (spelled == core->spellings) stop("a name too many");
             strcpy(spellings[spelled++], text);
         }
-    if (spelled != SPELLINGS) stop("a name is missing");
+    if (spelled != core->spellings) stop("a name is missing");
 }
 
 static bool register_is_here(uint32_t number) { return number <= 10 || number == 13 || number >= 28; }
@@ -162,7 +175,7 @@ enum kind {
     // why the PPE 42 lacks a word that objdump names
     REGISTER, CR_FIELD, RESERVED, UPDATE, SPR, TO, BO_COUNTS, FXM,
     // why objdump does not name a word that the PPE 42 has
-    TG, BO, HINT, DOUBLEWORD,
+    TG, BO, HINT, DOUBLEWORD, FRAME,
     KINDS, NO_KIND = KINDS
 };
 
@@ -179,6 +192,7 @@ static const char *const kinds[KINDS] = {
     [BO] = "BO with bits that are ignored or only hint (9.4.15 to 9.4.17, D5)",
     [HINT] = "dcbf with hint bits (9.4.30, D3)",
     [DOUBLEWORD] = "a virtual doubleword, which the 405 has not (Table 1.68, D38)",
+    [FRAME] = "lsku or stsku, which the 42X alone has (Table 1.69)",
 };
 
 static uint32_t reserved(const struct row *row) {
@@ -194,13 +208,21 @@ static bool registers_are_here(uint32_t word, int registers) {
     return (!(registers & D) || register_is_here(field(word, 6, 10))) &&
            (!(registers & PAIR) || register_is_here(next(field(word, 6, 10)))) &&
            (!(registers & A) || register_is_here(field(word, 11, 15))) &&
+           (!(registers & PAIR_A) || register_is_here(next(field(word, 11, 15)))) &&
            (!(registers & B) || register_is_here(field(word, 16, 20)));
 }
 
-// The restriction of the PPE 42 that a word of the 87 opcodes breaks.
+// Whether a frame has the displacement that its end has: at least one doubleword to pop, less than none to push.
+static bool frame_fits(uint32_t word, bool popped) {
+    uint32_t below_0 = field(word, 16, 16), doublewords = field(word, 17, 28);
+    return popped ? !below_0 && doublewords : below_0;
+}
+
+// The restriction of the PPE 42 that a word of its opcodes breaks. On the 42X tw with TG has none.
 static enum kind restriction(uint32_t word, const struct row *row) {
     const struct form *form = row->form;
     uint32_t d = field(word, 6, 10), a = field(word, 11, 15);
+    if (core == &CORE_42X && form == &TRAPPING && word & BIT(31)) return NO_KIND;
     if (!registers_are_here(word, form->registers)) return REGISTER;
     if (word & form->cr) return CR_FIELD;
     if (word & reserved(row)) return RESERVED;
@@ -212,6 +234,8 @@ static enum kind restriction(uint32_t word, const struct row *row) {
     case TRAP: return d == 0 || d == 31 ? NO_KIND : TO;
     case TO_CTR: return word & BIT(8) ? NO_KIND : BO_COUNTS;
     case MOVE_CR: return field(word, 12, 19) == 0x80 ? NO_KIND : FXM;
+    case LOAD_FRAME:
+    case STORE_FRAME: return d == a && a && word & BIT(31) && frame_fits(word, form->rule == LOAD_FRAME) ? NO_KIND : FRAME;
     default: return NO_KIND;
     }
 }
@@ -230,7 +254,8 @@ static uint32_t hints_of_bo(uint32_t word) {
 static enum kind leniency(uint32_t word, const struct row *row) {
     if (row->form == &TRAPPING && word & BIT(31)) return TG;
     if (row->form == &FLUSH && word & BITS(9, 10)) return HINT;
-    if (row->form->registers & PAIR) return DOUBLEWORD;
+    if (row->form == &POPPING || row->form == &PUSHING) return FRAME;
+    if (row->form->registers & PAIR && !(row->form->registers & PAIR_A)) return DOUBLEWORD;
     return row->form->cr == BITS(11, 13) && hints_of_bo(word) ? BO : NO_KIND;
 }
 
@@ -265,13 +290,15 @@ static uint32_t drawn(const struct row *row) {
     case WRITE_SPR: return (word & ~BITS(11, 20)) | (spr & 31) << 16 | spr >> 5 << 11;
     case TRAP: return draw() % 2 ? word | BITS(6, 10) : word & ~BITS(6, 10);
     case MOVE_CR: return (word & ~BITS(12, 19)) | BIT(12);
+    case LOAD_FRAME: return (word & ~(BITS(6, 10) | BIT(16))) | field(word, 11, 15) << 21 | BIT(31);
+    case STORE_FRAME: return (word & ~BITS(6, 10)) | field(word, 11, 15) << 21 | BIT(16) | BIT(31);
     default: return word;
     }
 }
 
 // The words of both halves: for each instruction some, each with every single bit flipped; then words of any kind.
 static void each_word(void take(uint32_t word)) {
-    for (const struct row *row = rows; row < rows + ROWS; row++)
+    for (const struct row *row = rows + core->first; row < rows + core->rows; row++)
         for (int i = 0; i < DRAWN; i++) {
             uint32_t word = drawn(row);
             take(word);
@@ -305,7 +332,7 @@ static void check(uint32_t word) {
     name(word, own);
     const struct row *row = row_of(word);
     enum kind broken = row ? restriction(word, row) : NO_KIND;
-    bool legal = ppe42_legal(word), named = is_spelling(text);
+    bool legal = core->legal(word), named = is_spelling(text);
     bool sound = legal == (row && broken == NO_KIND) && (!named || !strcmp(text, own));
     enum kind kind = sound && legal ? leniency(word, row) : broken;
     words++;
@@ -328,15 +355,18 @@ static int report(void) {
     printf("%8" PRIu64 " legal, and objdump has the name that the opcodes give\n", both);
     printf("%8" PRIu64 " illegal, and objdump has no name\n", neither);
     printf("%8" PRIu64 " illegal, and objdump has the name of another instruction\n", other);
-    for (int i = 0; i < KINDS; i++)
+    int kinds_here = core == &CORE_42 ? FRAME : KINDS;
+    for (int i = 0; i < kinds_here; i++)
         printf("%8" PRIu64 " %s: %s\n", found[i], i < TG ? "illegal, but named" : "legal, but not named", kinds[i]);
     printf("%8" PRIu64 " unexplained\n", unexplained);
     return unexplained != 0;
 }
 
 int main(int count, char **arguments) {
-    bool make = count == 2 && !strcmp(arguments[1], "make");
-    if (!make && (count != 2 || strcmp(arguments[1], "check"))) stop("usage: compare make | compare check");
+    bool make = count > 1 && !strcmp(arguments[1], "make");
+    if (count == 3 && !strcmp(arguments[2], "42x")) core = &CORE_42X;
+    else if (count != 2) stop("usage: compare make | check [42x]");
+    if (!make && strcmp(arguments[1], "check")) stop("make or check");
     spell();
     each_word(make ? write_word : check);
     return make ? 0 : report();

@@ -12,7 +12,7 @@
 enum { GUARD = 64, FILL = 0xEE, EDGE = 0x5A };
 
 #define ISR_ST 0x00000040u
-#define TCR_DS 0x00400000u
+#define TCR_DS 0x00600000u // 9:10; on the 42 bit 10 is reserved
 #define REACHED ((uint64_t)1 << 63)
 #define WRITES ((uint64_t)1 << 63)
 
@@ -32,7 +32,7 @@ static const struct { const char *name; uint32_t start; } registers[PPE42_WORDS]
     [PPE42_XER] = {"XER", 0},              [PPE42_IAR] = {"IAR", 0},              [PPE42_HALT] = {"halt", 0},
 };
 
-// What ppe42_tell may answer, by the names of a tells line.
+// What tell may answer, by the names of a tells line.
 static const char *const told_names[] = {
     [PPE42_STAYS_HALTED] = "halted",
     [PPE42_EXECUTES] = "executes",
@@ -50,6 +50,23 @@ static const char *const told_names[] = {
 };
 enum { TOLD = sizeof told_names / sizeof *told_names };
 
+typedef uint64_t player(uint8_t *, size_t, uint8_t *, size_t, const uint8_t *, size_t, uint32_t);
+typedef uint64_t stepper(uint8_t *, size_t, uint8_t *, size_t, uint8_t);
+typedef uint64_t asker(const uint8_t *, size_t, const uint8_t *, size_t, uint8_t);
+
+// The cores that a case may name, with what plays it there and how these functions' names begin.
+struct core {
+    const char *name, *prefix;
+    player *run, *run_reach, *run_inside;
+    stepper *step;
+    asker *tell, *access;
+};
+static const struct core cores[] = {
+    {"42", "ppe42", ppe42_run, ppe42_run_reach, ppe42_run_inside, ppe42_step, ppe42_tell, ppe42_access},
+    {"42x", "ppe42x", ppe42x_run, ppe42x_run_reach, ppe42x_run_inside, ppe42x_step, ppe42x_tell, ppe42x_access},
+};
+enum { CORES = sizeof cores / sizeof *cores };
+
 struct list { uint8_t *bytes; size_t count; };
 struct piece { uint32_t at; unsigned count; uint8_t bytes[32]; };
 struct pieces { unsigned count; struct piece piece[48]; };
@@ -57,6 +74,8 @@ struct pieces { unsigned count; struct piece piece[48]; };
 struct test {
     char name[120];
     unsigned line;
+    unsigned cores; // a bit for each that plays it
+    const struct core *core;
     bool open, ran, wants, tried;
     uint32_t lend, cursor, budget, word;
     uint32_t start[PPE42_WORDS], want[PPE42_WORDS];
@@ -69,7 +88,7 @@ struct test {
 };
 
 static const char *file;
-static unsigned line, cases, failures, differences;
+static unsigned file_cores, line, cases, failures, differences;
 
 static _Noreturn void malformed(const char *why, const char *what) {
     fprintf(stderr, "%s:%u: %s: %s\n", file, line, why, what);
@@ -166,7 +185,7 @@ static void assign(struct test *test, char *rest, bool text_may_follow,
 static void differ(const struct test *test, const char *function, const char *form, ...) {
     va_list values;
     va_start(values, form);
-    fprintf(stderr, "%s:%u: %s: %s: ", file, test->line, test->name, function);
+    fprintf(stderr, "%s:%u: %s: %s_%s: ", file, test->line, test->name, test->core->prefix, function);
     vfprintf(stderr, form, values);
     fputc('\n', stderr);
     va_end(values);
@@ -237,8 +256,6 @@ static void compare(const struct test *test, const char *function, const struct 
     free(expected);
 }
 
-typedef uint64_t player(uint8_t *, size_t, uint8_t *, size_t, const uint8_t *, size_t, uint32_t);
-
 // Plays one case by one function.
 static void check_by(const struct test *test, const char *function, player *play, uint32_t wanted_reach) {
     struct lent lent;
@@ -249,24 +266,30 @@ static void check_by(const struct test *test, const char *function, player *play
     free(lent.room);
 }
 
-// The run by ppe42_run_inside, gone on with after each reach until the budget is used or the core halts.
-static uint64_t run_inside(uint8_t *state, size_t state_len, uint8_t *memory, size_t memory_len,
-                           const uint8_t *events, size_t events_len, uint32_t budget) {
+// The run by run_inside, gone on with after each reach until the budget is used or the core halts.
+static uint64_t go_on_inside(const struct test *test, struct lent *lent) {
     uint32_t steps = 0;
     uint64_t reach = 0;
     for (;;) {
-        bool left = events_len > steps;
-        uint64_t answer = ppe42_run_inside(state, state_len, memory, memory_len, left ? events + steps : NULL,
-                                           left ? events_len - steps : 0, budget - steps);
+        bool left = test->events.count > steps;
+        uint64_t answer = test->core->run_inside(lent->state, PPE42_STATE, lent->memory, test->lend,
+                                                 left ? test->events.bytes + steps : NULL,
+                                                 left ? test->events.count - steps : 0, test->budget - steps);
         uint32_t count = ppe42_count(answer);
-        if (ppe42_refusal(answer) || count > budget - steps) return answer;
+        if (ppe42_refusal(answer) || count > test->budget - steps) return answer;
         steps += count;
         reach |= answer & REACHED;
         if (!ppe42_reached(answer) || !count) return reach | steps;
     }
 }
 
-typedef uint64_t asker(const uint8_t *, size_t, const uint8_t *, size_t, uint8_t);
+static void check_inside(const struct test *test) {
+    struct lent lent;
+    lend(test, &lent);
+    uint64_t answer = go_on_inside(test, &lent);
+    compare(test, "run_inside", &lent, answer, test->reach);
+    free(lent.room);
+}
 
 // Asks about the next step; nothing may change by that.
 static uint64_t ask(const struct test *test, const char *function, asker *asked, const struct lent *lent, size_t step) {
@@ -301,19 +324,19 @@ static void check_asked(const struct test *test) {
     char wanted_text[40], found_text[40];
     uint32_t refusal = step_refusal(test);
     lend(test, &lent);
-    uint64_t told = ask(test, "ppe42_tell", ppe42_tell, &lent, 0);
-    uint64_t access = ask(test, "ppe42_access", ppe42_access, &lent, 0);
+    uint64_t told = ask(test, "tell", test->core->tell, &lent, 0);
+    uint64_t access = ask(test, "access", test->core->access, &lent, 0);
     if (ppe42_refusal(told) != refusal || ppe42_reached(told))
-        differ(test, "ppe42_tell", "refusal wanted %" PRIu32 ", found answer %016" PRIX64, refusal, told);
-    if (refusal && ppe42_count(told)) differ(test, "ppe42_tell", "a count beside a refusal");
-    if (refusal && access) differ(test, "ppe42_access", "an access of a step that is refused");
+        differ(test, "tell", "refusal wanted %" PRIu32 ", found answer %016" PRIX64, refusal, told);
+    if (refusal && ppe42_count(told)) differ(test, "tell", "a count beside a refusal");
+    if (refusal && access) differ(test, "access", "an access of a step that is refused");
     if (test->access_named && access != test->access)
-        differ(test, "ppe42_access", "wanted %s, found %s", access_text(test->access, wanted_text),
+        differ(test, "access", "wanted %s, found %s", access_text(test->access, wanted_text),
                access_text(access, found_text));
     free(lent.room);
 }
 
-// What ppe42_run_inside must answer by what is told of each step: the two storage faults reach past memory.
+// What run_inside must answer by what is told of each step: the two storage faults reach past memory.
 static uint64_t wanted_inside(const struct test *test) {
     for (size_t i = 0; i < test->tells.count; i++) {
         uint8_t told = test->tells.bytes[i];
@@ -330,38 +353,46 @@ static void check_tells(const struct test *test) {
         malformed("tells has a name for each step, and may have halted up to the budget", test->name);
     lend(test, &lent);
     for (size_t i = 0; i < test->tells.count; i++) {
-        uint64_t told = ask(test, "ppe42_tell", ppe42_tell, &lent, i);
+        uint64_t told = ask(test, "tell", test->core->tell, &lent, i);
         if (told != test->tells.bytes[i])
-            differ(test, "ppe42_tell", "before step %zu wanted %s, found %s (%016" PRIX64 ")", i,
+            differ(test, "tell", "before step %zu wanted %s, found %s (%016" PRIX64 ")", i,
                    told_names[test->tells.bytes[i]], told < TOLD ? told_names[told] : "no name", told);
         uint8_t event = i < test->events.count ? test->events.bytes[i] : 0;
-        steps += ppe42_step(lent.state, PPE42_STATE, lent.memory, test->lend, event);
+        steps += test->core->step(lent.state, PPE42_STATE, lent.memory, test->lend, event);
     }
-    compare(test, "ppe42_step", &lent, steps, 0);
+    compare(test, "step", &lent, steps, 0);
     free(lent.room);
 
     lend(test, &lent);
-    uint64_t inside = ppe42_run_inside(lent.state, PPE42_STATE, lent.memory, test->lend, test->events.bytes,
-                                       test->events.count, test->budget);
+    uint64_t inside = test->core->run_inside(lent.state, PPE42_STATE, lent.memory, test->lend, test->events.bytes,
+                                             test->events.count, test->budget);
     if (inside != wanted_inside(test))
-        differ(test, "ppe42_run_inside", "wanted %016" PRIX64 ", found %016" PRIX64, wanted_inside(test), inside);
+        differ(test, "run_inside", "wanted %016" PRIX64 ", found %016" PRIX64, wanted_inside(test), inside);
     free(lent.room);
 }
 
-// One case, by each function that runs; ppe42_run says nothing of a reach.
-static void check(const struct test *test) {
+// One case on one core, by each function that runs; run says nothing of a reach.
+static void check_on_core(const struct test *test) {
     unsigned before = differences;
-    check_by(test, "ppe42_run", ppe42_run, 0);
-    check_by(test, "ppe42_run_reach", ppe42_run_reach, test->reach);
-    check_by(test, "ppe42_run_inside", run_inside, test->reach);
+    check_by(test, "run", test->core->run, 0);
+    check_by(test, "run_reach", test->core->run_reach, test->reach);
+    check_inside(test);
     check_asked(test);
     if (test->tells.count) check_tells(test);
     cases++;
     failures += differences != before;
 }
 
+static void check(const struct test *test) {
+    struct test one = *test;
+    for (unsigned i = 0; i < CORES; i++) {
+        one.core = &cores[i];
+        if (test->cores >> i & 1) check_on_core(&one);
+    }
+}
+
 static void begin(struct test *test, const char *name) {
-    *test = (struct test){.line = line, .open = true, .lend = 512};
+    *test = (struct test){.line = line, .cores = file_cores, .open = true, .lend = 512};
     snprintf(test->name, sizeof test->name, "%s", name);
     for (int i = 0; i < PPE42_WORDS; i++) test->start[i] = registers[i].start;
 }
@@ -447,15 +478,21 @@ static void want(struct test *test, int index, uint32_t value) {
     test->want[index] = value;
 }
 
-static void want_loaded(struct test *test, uint32_t address, uint32_t bytes) {
+// Up to eight bytes of memory as it is at the start.
+static uint64_t given_bytes(const struct test *test, uint32_t address, uint32_t bytes) {
     uint8_t *memory = room_for(test->lend);
     uint64_t value = 0;
     memset(memory, FILL, test->lend);
     lay(memory, test->lend, &test->given);
     for (uint32_t i = 0; i < bytes; i++) value = value << 8 | memory[address + i];
+    free(memory);
+    return value;
+}
+
+static void want_loaded(struct test *test, uint32_t address, uint32_t bytes) {
+    uint64_t value = given_bytes(test, address, bytes);
     want(test, PPE42_R28, (uint32_t)(bytes == 8 ? value >> 32 : value));
     if (bytes == 8) want(test, PPE42_R29, (uint32_t)value);
-    free(memory);
 }
 
 static void want_stored(struct test *test, uint32_t address, uint32_t bytes) {
@@ -474,12 +511,12 @@ static void want_served(struct test *test, const struct each *each, uint32_t add
 }
 
 // What 4.5.3 and 4.5.6 leave where MSR has UIE alone.
-static void want_interrupt(struct test *test, const struct each *each, uint32_t address, uint32_t vector) {
+static void want_interrupt(struct test *test, bool store, uint32_t address, uint32_t vector) {
     want(test, PPE42_SRR0, test->start[PPE42_IAR]);
     want(test, PPE42_SRR1, test->start[PPE42_MSR]);
     want(test, PPE42_MSR, 0);
     want(test, PPE42_EDR, address);
-    want(test, PPE42_ISR, each->store ? ISR_ST : 0);
+    want(test, PPE42_ISR, store ? ISR_ST : 0);
     want(test, PPE42_IAR, vector);
 }
 
@@ -498,11 +535,11 @@ static void play_at(const struct test *test, const struct each *each, uint32_t a
         break;
     case 'a':
         told = PPE42_FAULTS_ALIGNMENT;
-        want_interrupt(&one, each, address, 0x0C0);
+        want_interrupt(&one, each->store, address, 0x0C0);
         break;
     default:
         told = PPE42_FAULTS_DATA_STORAGE;
-        want_interrupt(&one, each, address, 0x060);
+        want_interrupt(&one, each->store, address, 0x060);
         one.reach = 1;
     }
     one.tells = (struct list){.bytes = &told, .count = 1};
@@ -524,6 +561,91 @@ static void play_each(struct test *test, char *kind) {
     for (uint32_t address = 0; test->map[address]; address++) play_at(test, &each, address);
 }
 
+// The frame that the word of an lsku or stsku moves: (RA) as it was, the EA that RA gets, and the upper of the two, by which LR and
+// the pairs lie.
+struct frame { bool store; int ra; uint32_t sp, ea, upper, bytes; };
+
+// What it loads or stores, each at an address of its own; BACK is the old (RA).
+enum part { LINK, PAIR30, PAIR28, BACK };
+
+static int register_numbered(uint32_t number) {
+    return number >= 28 ? PPE42_R28 + (int)number - 28 : number == 13 ? PPE42_R13 : (int)number;
+}
+
+static struct frame frame_of(uint32_t word, uint32_t sp) {
+    bool store = word >> 26 == 62;
+    uint32_t ea = sp + (uint32_t)(int16_t)(word & 0xFFF8);
+    return (struct frame){store, register_numbered(word >> 16 & 31), sp, ea, store ? sp : ea, store ? sp - ea : ea - sp};
+}
+
+// In the order of 9.4.45 and 9.4.89: LR last or first, and a pair for each doubleword beyond the first, two at most.
+static unsigned parts_of(const struct frame *frame, enum part parts[static 4]) {
+    unsigned count = 0;
+    if (frame->store) parts[count++] = LINK;
+    if (frame->bytes > 8) parts[count++] = PAIR30;
+    if (frame->bytes > 16) parts[count++] = PAIR28;
+    parts[count++] = frame->store ? BACK : LINK;
+    return count;
+}
+
+static uint32_t address_of(const struct frame *frame, enum part part) {
+    switch (part) {
+    case LINK: return frame->upper + 4;
+    case PAIR30: return frame->upper - 8;
+    case PAIR28: return frame->upper - 16;
+    default: return frame->ea;
+    }
+}
+
+// A part that is served stays, whatever comes after it, but for LR, which is loaded last. RA is not loaded from its pair.
+static void want_part(struct test *test, const struct frame *frame, enum part part) {
+    uint32_t address = address_of(frame, part), bytes = part == PAIR30 || part == PAIR28 ? 8 : 4;
+    int first = part == PAIR30 ? PPE42_R30 : part == PAIR28 ? PPE42_R28 : part == BACK ? frame->ra : PPE42_LR;
+    if (address > test->lend || bytes > test->lend - address) malformed("a part outside lent memory is served", test->name);
+    for (uint32_t i = 0; 4 * i < bytes; i++) {
+        int index = first + (int)i;
+        if (frame->store) add_word(&test->wanted, address + 4 * i, test->start[index]);
+        else if (index != frame->ra) want(test, index, (uint32_t)given_bytes(test, address + 4 * i, 4));
+    }
+}
+
+// By the letters of its parts, one for each that it gets to; what the step is told to be.
+static uint8_t want_frame(struct test *test, const struct frame *frame, const char *letters) {
+    enum part parts[4];
+    unsigned count = parts_of(frame, parts), served = (unsigned)strspn(letters, ".");
+    for (unsigned i = 0; i < served && i < count; i++) want_part(test, frame, parts[i]);
+    if (!strcmp(letters, "a")) {
+        want_interrupt(test, frame->store, frame->sp, 0x0C0);
+        return PPE42_FAULTS_ALIGNMENT;
+    }
+    if (served < count && !strcmp(letters + served, "d")) {
+        want_interrupt(test, frame->store, address_of(frame, parts[served]), 0x060);
+        test->reach = 1;
+        return PPE42_FAULTS_DATA_STORAGE;
+    }
+    if (served != count || letters[served]) malformed("neither a, nor a letter for each part up to the first d", letters);
+    want(test, frame->ra, frame->ea);
+    want(test, PPE42_EDR, frame->store ? frame->sp : frame->ea);
+    want(test, PPE42_IAR, test->start[PPE42_IAR] + 4);
+    return PPE42_EXECUTES;
+}
+
+static void play_frame(struct test *test, char *word) {
+    char *sp = split(word), *letters = split(sp), *text = split(letters);
+    struct frame frame = frame_of(number(word, 16), number(sp, 16));
+    struct test one = *test;
+    if (!test->ran) malformed("frame comes after run", text);
+    test->tried = true;
+    one.line = line;
+    snprintf(one.name, sizeof one.name, "%s from %s", text, sp);
+    one.start[frame.ra] = frame.sp;
+    add_word(&one.given, one.start[PPE42_IAR], number(word, 16));
+    uint8_t told = want_frame(&one, &frame, letters);
+    one.tells = (struct list){.bytes = &told, .count = 1};
+    name_access(&one, frame.store, frame.bytes + 8, frame.store ? frame.ea : frame.sp);
+    check(&one);
+}
+
 // A letter for each address from 0 on; blanks set the groups apart.
 static void read_map(struct test *test, const char *rest) {
     size_t count = 0;
@@ -535,8 +657,18 @@ static void read_map(struct test *test, const char *rest) {
     test->map[count] = 0;
 }
 
+static unsigned cores_named(const char *name) {
+    unsigned named = 0;
+    for (unsigned i = 0; i < CORES; i++)
+        if (!strcmp(cores[i].name, name) || !strcmp("both", name)) named |= 1u << i;
+    if (!named) malformed("no core", name);
+    return named;
+}
+
 static void read_part(struct test *test, const char *key, char *rest) {
-    if (!strcmp(key, "lend")) {
+    if (!strcmp(key, "core")) {
+        test->cores = cores_named(rest);
+    } else if (!strcmp(key, "lend")) {
         test->lend = number(rest, 10);
     } else if (!strcmp(key, "set")) {
         assign(test, rest, false, start_with);
@@ -578,14 +710,18 @@ static void read_line(struct test *test, char *text) {
         finish(test);
         if (!section) malformed("no # behind the name, with what the case goes by", rest);
         begin(test, rest);
+    } else if (!test->open && !strcmp(text, "core")) {
+        file_cores = cores_named(rest);
     } else if (!test->open) {
         malformed("no case yet", text);
     } else if (!strcmp(text, "try")) {
         try_once(test, rest);
     } else if (!strcmp(text, "each")) {
         play_each(test, rest);
+    } else if (!strcmp(text, "frame")) {
+        play_frame(test, rest);
     } else if (test->tried) {
-        malformed("only a try, an each or a case may follow one", text);
+        malformed("only a try, an each, a frame or a case may follow one", text);
     } else {
         read_part(test, text, rest);
     }
@@ -597,6 +733,7 @@ static void check_file(const char *path) {
     unsigned cases_before = cases, failures_before = failures;
     FILE *in = fopen(path, "r");
     file = path;
+    file_cores = cores_named("42");
     line = 0;
     if (!in) malformed("cannot be read", path);
     while (fgets(text, sizeof text, in)) {

@@ -18,18 +18,19 @@ enum { LONGEST = 256, ROOM = 4096, OUTPUT = 64, DEEPEST = 15, SHOWN = 20 };
 // What stands in the third column: each of these letters is an operand, everything else is itself.
 //   r register   z register or a lone 0   b base of an update store, not r0   l base of an update load, nor the first operand
 //   s -32768 to 32767   u 0 to 65535   h 0 to 31   o BO   c BO of bcctr   i BI   t TO   e E   m SPRN read   n SPRN written
-//   w target, 26 bits   y target, 16 bits; W and Y relative ones
+//   w target, 26 bits   y target, 16 bits; W and Y relative ones   p first register of a pair   q 0 to 63
 // Where the second column has a text, as gets that in place of the spelling and its space.
 //
 // What as lacks, reads otherwise or refuses:
-//   lvd, lvdu, stvd, stvdu   not here: no other PowerPC has them
+//   lvd, lvdu, stvd, stvdu   not here: no other PowerPC has them; nor lsku and stsku
 //   mtcr0 RS                 as has it by no name: mtcrf 128,RS
 //   b, bl, bc, bcl           as wants the address of the target: .+(N)
 //   BO 6, 7, 14, 15, 24-27   as takes them for later processors than the 405, so its machine is set for that line
 //   BO 21-23, 28-31          not here: as refuses them, for bits that Power ISA ignores
 //   r0 for (RA|0)            as warns of it: it gets 0
 //   leading zeros            as knows no r04, and 010 is eight to it: it gets the number without
-// Lines that the library refuses are not drawn.
+//   rldicl, rldicr, rldimi   as has them for processors of 64 bits, so its machine is set for that line
+// Lines that the library refuses are not drawn. The last rows are a 42X's; on the 42 their lines are outside the grammar.
 static const struct row { const char *ours, *theirs, *operands; } rows[] = {
     {"add", 0, "r,r,r"}, {"add.", 0, "r,r,r"}, {"addo", 0, "r,r,r"}, {"addo.", 0, "r,r,r"},
     {"addc", 0, "r,r,r"}, {"addc.", 0, "r,r,r"}, {"addco", 0, "r,r,r"}, {"addco.", 0, "r,r,r"},
@@ -73,11 +74,15 @@ static const struct row { const char *ours, *theirs, *operands; } rows[] = {
     {"subfze", 0, "r,r"}, {"subfze.", 0, "r,r"}, {"subfzeo", 0, "r,r"}, {"subfzeo.", 0, "r,r"},
     {"sync", 0, ""}, {"tw", 0, "t,r,r"}, {"wrtee", 0, "r"}, {"wrteei", 0, "e"},
     {"xor", 0, "r,r,r"}, {"xor.", 0, "r,r,r"}, {"xori", 0, "r,r,u"}, {"xoris", 0, "r,r,u"},
+    {"mulli", 0, "r,r,s"}, {"mullw", 0, "r,r,r"}, {"mullw.", 0, "r,r,r"}, {"mullwo", 0, "r,r,r"}, {"mullwo.", 0, "r,r,r"},
+    {"rldicl", 0, "p,p,q,q"}, {"rldicl.", 0, "p,p,q,q"}, {"rldicr", 0, "p,p,q,q"}, {"rldicr.", 0, "p,p,q,q"},
+    {"rldimi", 0, "p,p,q,q"}, {"rldimi.", 0, "p,p,q,q"},
 };
-enum { ROWS = sizeof rows / sizeof *rows };
-_Static_assert(ROWS == 144, "9.4 has 144 spellings beside the doublewords");
+enum { ROWS = sizeof rows / sizeof *rows, OF_42 = 144 };
+_Static_assert(ROWS == OF_42 + 11, "9.4 has 144 spellings beside the doublewords, and 11 of a 42X beside the frames");
 
 static const uint16_t registers[] = {0, 1, 2, 3, 4, 5, 6, 7, 8, 9, 10, 13, 28, 29, 30, 31};
+static const uint16_t firsts[] = {0, 1, 2, 3, 4, 5, 6, 7, 8, 9, 28, 29, 30, 31};
 static const uint16_t options[] = {0, 1, 2, 3, 4, 5, 8, 9, 10, 11, 12, 13, 16, 17, 18, 19, 20, 6, 7, 14, 15, 24, 25, 26, 27};
 static const uint16_t options_to_ctr[] = {4, 5, 12, 13, 20, 6, 7, 14, 15};
 static const uint16_t sprs[] = {1, 8, 9, 22, 26, 27, 61, 62, 272, 308, 316, 336, 340, 63, 286, 287};
@@ -100,10 +105,10 @@ static uint32_t draw(void) {
 
 static int32_t among(const uint16_t *list, size_t count) { return list[draw() % count]; }
 
-// A line in both spellings, and whether as needs a later machine for it.
+// A line in both spellings, and whether as needs a later machine for it and a 42X has it alone.
 struct text { char bytes[ROOM]; size_t len; };
 static struct text ours, theirs;
-static bool plain, later_machine;
+static bool plain, later_machine, of_42x;
 
 __attribute__((format(printf, 2, 3))) static void add(struct text *text, const char *form, ...) {
     va_list values;
@@ -237,6 +242,11 @@ static void add_operands(const char *operands) {
             if (first < 0) first = drawn;
             add_register(drawn);
             break;
+        case 'p':
+            later_machine = true;
+            add_register(among(firsts, COUNT(firsts)));
+            break;
+        case 'q': add_value(between(0, 63)); break;
         case 'z': add_register_or_0(among(registers, COUNT(registers))); break;
         case 'b': add_register(base_of_update(0)); break;
         case 'l': add_register(base_of_update(first)); break;
@@ -262,16 +272,17 @@ static void add_operands(const char *operands) {
 static void write_line(const struct row *row) {
     ours.len = theirs.len = 0;
     later_machine = false;
+    of_42x = row >= rows + OF_42;
     add(&ours, "%s%s", row->ours, *row->operands ? " " : "");
     if (row->theirs) add(&theirs, "%s", row->theirs);
     else add(&theirs, "%s", ours.bytes);
     add_operands(row->operands);
 }
 
-// The lines of both halves: one of each spelling in turn.
+// The lines of both halves: one of each spelling in turn; plain ones are the 42's.
 static void each_line(uint32_t lines, void take(void)) {
     for (uint32_t i = 0; i < lines; i++) {
-        do write_line(&rows[i % ROWS]);
+        do write_line(&rows[i % (plain ? OF_42 : ROWS)]);
         while (ours.len > LONGEST);
         take();
     }
@@ -295,18 +306,42 @@ static uint32_t listed(void) {
     return (uint32_t)bytes[0] << 24 | (uint32_t)bytes[1] << 16 | (uint32_t)bytes[2] << 8 | bytes[3];
 }
 
-static void check(void) {
+// The functions of a core.
+struct core {
+    const char *name;
+    uint64_t (*assemble)(const uint8_t *, size_t);
+    uint64_t (*disassemble)(uint32_t, uint8_t *, size_t);
+};
+static const struct core CORE_42 = {"42", ppe42_assemble, ppe42_disassemble};
+static const struct core CORE_42X = {"42X", ppe42x_assemble, ppe42x_disassemble};
+
+static void check_on(const struct core *core, uint32_t word) {
     uint8_t line[OUTPUT];
-    uint32_t word = listed();
+    uint64_t found = core->assemble((const uint8_t *)ours.bytes, ours.len);
+    if (found != word && other_word++ < SHOWN)
+        printf("%s: as has %08" PRIX32 " for %s, the library's %s %016" PRIX64 "\n", ours.bytes, word, theirs.bytes, core->name,
+               found);
+    uint64_t written = core->disassemble(word, line, OUTPUT);
+    uint64_t len = written - ((uint64_t)1 << 32);
+    if ((len > OUTPUT || core->assemble(line, len) != word) && not_back++ < SHOWN)
+        printf("%08" PRIX32 " is disassembled to %016" PRIX64 " by the %s, no line that gives it back\n", word, written,
+               core->name);
+}
+
+static void check_lacks(uint32_t word) {
+    uint8_t line[OUTPUT];
     uint64_t found = ppe42_assemble((const uint8_t *)ours.bytes, ours.len);
+    if (ppe42_line_refusal(found) == PPE42_REFUSED_LINE && !ppe42_disassemble(word, line, OUTPUT)) return;
+    if (other_word++ < SHOWN) printf("%s: the 42 has it, %016" PRIX64 "\n", ours.bytes, found);
+}
+
+static void check(void) {
+    uint32_t word = listed();
     compared++;
     if (ours.len > longest) longest = ours.len;
-    if (found != word && other_word++ < SHOWN)
-        printf("%s: as has %08" PRIX32 " for %s, the library %016" PRIX64 "\n", ours.bytes, word, theirs.bytes, found);
-    uint64_t written = ppe42_disassemble(word, line, OUTPUT);
-    uint64_t len = written - ((uint64_t)1 << 32);
-    if ((len > OUTPUT || ppe42_assemble(line, len) != word) && not_back++ < SHOWN)
-        printf("%08" PRIX32 " is disassembled to %016" PRIX64 ", no line that gives it back\n", word, written);
+    check_on(&CORE_42X, word);
+    if (of_42x) check_lacks(word);
+    else check_on(&CORE_42, word);
 }
 
 static int report(void) {

@@ -13,13 +13,25 @@ enum { GUARD = 64, EDGE = 0x5A, MOST = 1 << 17, NO_MARK = MOST + 1, BEGINNINGS =
 enum { LEAST_OUTPUT = 64, MOST_OUTPUT = 200, NOT_IN_GRAMMAR = 11 };
 
 #define UNMEASURED SIZE_MAX
+#define BAD_OPERANDS ((uint64_t)6 << 48)
 #define SHORT_OUTPUT ((uint64_t)8 << 48)
 #define HAS_LINE ((uint64_t)1 << 32)
 #define UNWRITTEN ((uint64_t)1 << 33)
 
-// What a row says: its line and its word belong together both ways, only from line to word, only from word to line; or
-// the word has no line; or the line has no word.
-enum kind { BOTH, READS, SHOWS, NONE, REFUSED };
+// What a row says: its line and its word belong together both ways, only from line to word, only from word to line, the line
+// having a word or none; or the word has no line; or the line has no word.
+enum kind { BOTH, READS, SHOWS, LISTS, NONE, REFUSED };
+
+// The cores that a row may be of.
+static const struct core {
+    const char *name, *assembles, *disassembles;
+    uint64_t (*assemble)(const uint8_t *, size_t);
+    uint64_t (*disassemble)(uint32_t, uint8_t *, size_t);
+} cores[] = {
+    {"42", "ppe42_assemble", "ppe42_disassemble", ppe42_assemble, ppe42_disassemble},
+    {"42x", "ppe42x_assemble", "ppe42x_disassemble", ppe42x_assemble, ppe42x_disassemble},
+};
+enum { CORES = sizeof cores / sizeof *cores };
 
 struct row {
     enum kind kind;
@@ -29,6 +41,8 @@ struct row {
 };
 
 static const char *file, *shown;
+static unsigned cores_named; // a bit for each that a row is of
+static const struct core *core;
 static unsigned at, cases, failures;
 static bool failed;
 
@@ -55,7 +69,7 @@ static uint64_t assemble(const uint8_t *line, size_t len, uint8_t behind) {
     static uint8_t room[MOST + GUARD];
     memcpy(room, line, len);
     memset(room + len, behind, GUARD);
-    return ppe42_assemble(len || behind ? room : NULL, len);
+    return core->assemble(len || behind ? room : NULL, len);
 }
 
 static void check_answer(const struct row *row, uint64_t wanted) {
@@ -63,7 +77,7 @@ static void check_answer(const struct row *row, uint64_t wanted) {
     for (size_t i = 0; i < sizeof behind; i++) {
         uint64_t found = assemble(row->line, row->len, behind[i]);
         if (found == wanted) continue;
-        differs("ppe42_assemble");
+        differs(core->assembles);
         printf("wanted ");
         print_answer(wanted);
         printf(", got ");
@@ -82,7 +96,7 @@ static void check_beginnings(const struct row *row) {
         uint64_t found = assemble(row->line, len, row->line[len]);
         uint64_t end = (uint64_t)NOT_IN_GRAMMAR << 48 | (uint64_t)(len < good ? len : good) << 32;
         if (found == end || (len <= good && found >> 48 != NOT_IN_GRAMMAR)) continue;
-        differs("ppe42_assemble");
+        differs(core->assembles);
         printf("of its first %zu bytes, got ", len);
         print_answer(found);
         putchar('\n');
@@ -99,7 +113,7 @@ struct output {
 static void disassemble(uint32_t word, size_t room, struct output *output) {
     memset(output->room, EDGE, sizeof output->room);
     output->line = output->room + GUARD;
-    output->answer = ppe42_disassemble(word, room ? output->line : NULL, room);
+    output->answer = core->disassemble(word, room ? output->line : NULL, room);
 }
 
 // Whether an output holds these bytes and no others.
@@ -119,7 +133,7 @@ static void check_line(const struct row *row, uint64_t wanted) {
         uint64_t answer = lent ? wanted : SHORT_OUTPUT;
         disassemble(row->word, rooms[i], &output);
         if (output.answer == answer && holds(&output, row->line, lent && wanted ? row->len : 0)) continue;
-        differs("ppe42_disassemble");
+        differs(core->disassembles);
         printf("of %08" PRIX32 " into %zu bytes, wanted %016" PRIX64 ", got %016" PRIX64 " and \"%.*s\"\n", row->word,
                rooms[i], answer, output.answer, (int)strcspn((char *)output.line, "Z"), (char *)output.line);
         return;
@@ -133,29 +147,37 @@ static void check_back(const struct row *row) {
     disassemble(row->word, MOST_OUTPUT, &first);
     size_t len = (uint32_t)first.answer;
     if (len > MOST_OUTPUT) len = 0;
-    uint64_t back = ppe42_assemble(first.line, len);
+    uint64_t back = core->assemble(first.line, len);
     disassemble((uint32_t)back, MOST_OUTPUT, &second);
     bool same = back == row->word, own = len == row->len && !memcmp(first.line, row->line, len);
     if (same == (row->kind != SHOWS) && own == (row->kind != READS) && second.answer == (HAS_LINE | len) &&
         holds(&second, first.line, len))
         return;
-    differs("ppe42_disassemble");
+    differs(core->disassembles);
     printf("of %08" PRIX32 ", got \"%.*s\", which gives ", row->word, (int)len, (char *)first.line);
     print_answer(back);
     putchar('\n');
 }
 
-static void check(const struct row *row) {
+static void check_on_core(const struct row *row) {
     failed = false;
     if (row->kind == BOTH || row->kind == READS) check_answer(row, row->word);
     if (row->kind == REFUSED) check_answer(row, (uint64_t)row->refusal << 48 | (uint64_t)row->column << 32);
+    if (row->kind == LISTS) check_answer(row, BAD_OPERANDS);
     if (row->kind != SHOWS) check_beginnings(row);
     if (row->kind == BOTH) check_line(row, HAS_LINE | row->len);
-    if (row->kind == SHOWS) check_line(row, HAS_LINE | UNWRITTEN | row->len);
+    if (row->kind == SHOWS || row->kind == LISTS) check_line(row, HAS_LINE | UNWRITTEN | row->len);
     if (row->kind == NONE) check_line(row, 0);
-    if (row->kind != REFUSED && row->kind != NONE) check_back(row);
+    if (row->kind < LISTS) check_back(row);
     cases++;
     failures += failed;
+}
+
+static void check(const struct row *row) {
+    for (unsigned i = 0; i < CORES; i++) {
+        core = &cores[i];
+        if (cores_named >> i & 1) check_on_core(row);
+    }
 }
 
 static uint32_t number(const char *text, size_t digits, int base) {
@@ -228,11 +250,25 @@ static void read_refusal(struct row *row, const char *key, uint32_t mark) {
     if (mark != NO_MARK && row->column != mark) malformed("the mark stands elsewhere", key);
 }
 
+// The rows from here on are of this core, or of both.
+static void name_cores(const char *name) {
+    cores_named = 0;
+    for (unsigned i = 0; i < CORES; i++)
+        if (!strcmp(cores[i].name, name) || !strcmp("both", name)) cores_named |= 1u << i;
+    if (!cores_named) malformed("no core", name);
+}
+
 static void read_row(char *text) {
-    static const char *const keys[] = {[BOTH] = "both", [READS] = "reads", [SHOWS] = "shows", [NONE] = "none"};
+    static const char *const keys[] = {
+        [BOTH] = "both", [READS] = "reads", [SHOWS] = "shows", [LISTS] = "lists", [NONE] = "none",
+    };
     static struct row row;
     char *rest = split(text);
     int kind = BOTH;
+    if (!strcmp(text, "core")) {
+        name_cores(rest);
+        return;
+    }
     while (kind < REFUSED && strcmp(text, keys[kind])) kind++;
     char *line = kind < REFUSED ? split(rest) : rest;
     shown = kind == NONE ? rest : line;
@@ -254,6 +290,7 @@ static void check_file(const char *path) {
     unsigned before = cases;
     FILE *in = fopen(path, "r");
     file = path;
+    name_cores("42");
     at = 0;
     if (!in) malformed("cannot be read", path);
     while (fgets(text, sizeof text, in)) {

@@ -3,17 +3,17 @@
 use crate::case::Case;
 use crate::report::{answers, buffers, Difference};
 use crate::tally::Tally;
+use crate::Subject;
 use draw::Urn;
-use linked::Library;
 
 const TAIL: usize = 156;
 
-pub fn compare(library: &Library, case: &Case, urn: &mut Urn, tally: &mut Tally) -> Result<(), Difference> {
-    compare_write(library, case, urn, tally)?;
-    compare_read(library, case, urn, tally)
+pub fn compare(subject: &Subject, case: &Case, urn: &mut Urn, tally: &mut Tally) -> Result<(), Difference> {
+    compare_write(subject, case, urn, tally)?;
+    compare_read(subject, case, urn, tally)
 }
 
-fn compare_write(library: &Library, case: &Case, urn: &mut Urn, tally: &mut Tally) -> Result<(), Difference> {
+fn compare_write(subject: &Subject, case: &Case, urn: &mut Urn, tally: &mut Tally) -> Result<(), Difference> {
     let length = case.memory.len() + TAIL;
     let length = match urn.below(10) {
         0 => urn.below(length as u32) as usize,
@@ -23,8 +23,8 @@ fn compare_write(library: &Library, case: &Case, urn: &mut Urn, tally: &mut Tall
     };
     let mut expected = vec![0xC3; length];
     let mut given = expected.clone();
-    let answer = second::capture_write(&case.state, &case.memory, &mut expected);
-    let theirs = (library.capture_write)(&case.state, &case.memory, &mut given);
+    let answer = second::capture_write(subject.profile, &case.state, &case.memory, &mut expected);
+    let theirs = (subject.library.capture_write)(&case.state, &case.memory, &mut given);
     tally.answer_write(answer);
     if answer == theirs && expected == given {
         return Ok(());
@@ -33,9 +33,9 @@ fn compare_write(library: &Library, case: &Case, urn: &mut Urn, tally: &mut Tall
     Err(Difference::told(&format!("capture of M {:X} written to {length:X} bytes", case.memory.len()), lines))
 }
 
-fn compare_read(library: &Library, case: &Case, urn: &mut Urn, tally: &mut Tally) -> Result<(), Difference> {
+fn compare_read(subject: &Subject, case: &Case, urn: &mut Urn, tally: &mut Tally) -> Result<(), Difference> {
     let file = draw_file(case, urn);
-    let (expected, given) = (second::capture_check(&file), (library.capture_check)(&file));
+    let (expected, given) = (second::capture_check(subject.profile, &file), (subject.library.capture_check)(&file));
     tally.answer_read(expected);
     if expected == given {
         return Ok(());

@@ -51,17 +51,18 @@ mod tests {
     use super::*;
     use linked::LINKED;
     use second::registers::WORDS;
+    use second::Profile;
 
     const SPRG0: usize = 4 * 28;
 
     fn length_shows(state: &mut [u8], memory: &mut [u8], events: &[u8], budget: u32) -> u64 {
-        let answer = second::run(state, memory, events, budget);
+        let answer = second::run(Profile::Ppe42, state, memory, events, budget);
         state[SPRG0..SPRG0 + 4].copy_from_slice(&(memory.len() as u32).to_be_bytes());
         answer
     }
 
     fn budget_shows(state: &mut [u8], memory: &mut [u8], events: &[u8], budget: u32) -> u64 {
-        let answer = second::run(state, memory, events, budget);
+        let answer = second::run(Profile::Ppe42, state, memory, events, budget);
         state[SPRG0] ^= (budget > 7) as u8;
         answer
     }
@@ -70,7 +71,7 @@ mod tests {
         if memory.len() > 32 {
             memory[memory.len() - 1] = 0;
         }
-        second::run(state, memory, events, budget)
+        second::run(Profile::Ppe42, state, memory, events, budget)
     }
 
     const BRANCH_TO_ITSELF: u32 = 0x4800_0000;
@@ -83,7 +84,7 @@ mod tests {
         let case = Case { state: vec![0; 4 * WORDS], memory, events: vec![], budget: 5 };
         let first = Run::of(library.run_reach, &case, &case.events, case.budget);
         let mut urn = Urn::new(1);
-        (0..100).any(|_| check(&library, &case, &first, &mut urn, &mut Tally::default()).is_err())
+        (0..100).any(|_| check(&library, &case, &first, &mut urn, &mut Tally::of(Profile::Ppe42)).is_err())
     }
 
     #[test]
@@ -96,7 +97,7 @@ mod tests {
 
     #[test]
     fn a_core_that_hides_its_reach_is_caught() {
-        assert!(caught(Library { run_reach: second::run, ..LINKED }, LOAD_AT_32));
+        assert!(caught(Library { run_reach: LINKED.run, ..LINKED }, LOAD_AT_32));
         assert!(!caught(LINKED, LOAD_AT_32));
     }
 }

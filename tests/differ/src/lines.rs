@@ -2,9 +2,9 @@
 
 use crate::case::draw_word;
 use crate::report::{buffers, words, Difference};
-use draw::{draw_line, Urn};
-use linked::Library;
-use second::{Kind, Word, LINE};
+use crate::Subject;
+use draw::{draw_line, Spelling, Urn, SPELLINGS, SPELLINGS_42X};
+use second::{Kind, Profile, Word, LINE};
 use std::collections::BTreeMap;
 use std::fmt;
 
@@ -28,18 +28,26 @@ impl fmt::Display for Tally {
 }
 
 /// One line; where it has a word, the line of that word and of a random one.
-pub fn compare(library: &Library, urn: &mut Urn, tally: &mut Tally) -> Result<(), Difference> {
-    let line = draw_line(urn);
-    let (expected, given) = (second::assemble(&line), (library.assemble)(&line));
+pub fn compare(subject: &Subject, urn: &mut Urn, tally: &mut Tally) -> Result<(), Difference> {
+    let Subject { profile, library } = *subject;
+    let line = draw_line(urn, spellings(profile));
+    let (expected, given) = (second::assemble(profile, &line), (library.assemble)(&line));
     *tally.refusals.entry(expected >> 48).or_default() += 1;
     if expected != given {
         return Err(Difference::told(&format!("line \"{}\"", line.escape_ascii()), vec![comes_to(expected, given)]));
     }
     if expected >> 48 == 0 {
-        compare_word(library, expected as u32, urn, tally)?;
-        compare_word(library, draw_word(urn), urn, tally)?;
+        compare_word(subject, expected as u32, urn, tally)?;
+        compare_word(subject, draw_word(profile, urn), urn, tally)?;
     }
     Ok(())
+}
+
+fn spellings(profile: Profile) -> &'static [Spelling] {
+    match profile {
+        Profile::Ppe42 => &SPELLINGS,
+        Profile::Ppe42x => &SPELLINGS_42X,
+    }
 }
 
 fn comes_to(expected: u64, given: u64) -> String {
@@ -48,11 +56,13 @@ fn comes_to(expected: u64, given: u64) -> String {
     format!("expected {}, given {}", tell(expected), tell(given))
 }
 
-fn compare_word(library: &Library, word: u32, urn: &mut Urn, tally: &mut Tally) -> Result<(), Difference> {
-    compare_refused(library, word, urn)?;
+fn compare_word(subject: &Subject, word: u32, urn: &mut Urn, tally: &mut Tally) -> Result<(), Difference> {
+    let Subject { profile, library } = *subject;
+    compare_refused(subject, word, urn)?;
     let mut expected = vec![urn.word() as u8; LINE + urn.below(4) as usize * 9];
     let mut given = expected.clone();
-    let (answer, theirs) = (second::disassemble(word, &mut expected), (library.disassemble)(word, &mut given));
+    let answer = second::disassemble(profile, word, &mut expected);
+    let theirs = (library.disassemble)(word, &mut given);
     tally.words += 1;
     tally.legal += answer >> 32 & 1;
     tally.unwritten += answer >> 33 & 1;
@@ -64,8 +74,8 @@ fn compare_word(library: &Library, word: u32, urn: &mut Urn, tally: &mut Tally) 
         ];
         return Err(Difference::told(&format!("word {word:08X} disassembled"), lines.concat()));
     }
-    match Word(word).kind() {
-        Some(kind) => compare_again(library, word & !unwritten(kind), &given[..answer as u32 as usize]),
+    match Word(word).kind(profile) {
+        Some(kind) => compare_again(subject, word & !unwritten(kind), &given[..answer as u32 as usize]),
         None => Ok(()),
     }
 }
@@ -77,11 +87,11 @@ fn text(buffer: &[u8], answer: u64) -> String {
 }
 
 /// A buffer that is too short for lines is left as it is, whatever the word.
-fn compare_refused(library: &Library, word: u32, urn: &mut Urn) -> Result<(), Difference> {
+fn compare_refused(subject: &Subject, word: u32, urn: &mut Urn) -> Result<(), Difference> {
     let length = if urn.percent(50) { LINE - 1 } else { urn.below(LINE as u32) as usize };
     let expected = vec![urn.word() as u8; length];
     let mut given = expected.clone();
-    let (answer, theirs) = (8 << 48, (library.disassemble)(word, &mut given));
+    let (answer, theirs) = (8 << 48, (subject.library.disassemble)(word, &mut given));
     if answer == theirs && expected == given {
         return Ok(());
     }
@@ -89,14 +99,16 @@ fn compare_refused(library: &Library, word: u32, urn: &mut Urn) -> Result<(), Di
     Err(Difference::told(&format!("word {word:08X} disassembled to {length} bytes"), lines))
 }
 
-/// The line of a word makes it again, but for the fields that are not written.
-fn compare_again(library: &Library, word: u32, line: &[u8]) -> Result<(), Difference> {
-    let given = (library.assemble)(line);
-    if given == word as u64 {
+/// The line of a word makes it again, but for the fields that are not written; without TG, a tw of the 42X may be
+/// illegal.
+fn compare_again(subject: &Subject, word: u32, line: &[u8]) -> Result<(), Difference> {
+    let expected = if second::legal(subject.profile, word) { word as u64 } else { 6 << 48 };
+    let given = (subject.library.assemble)(line);
+    if given == expected {
         return Ok(());
     }
     let what = format!("line \"{}\" of a disassembled word", line.escape_ascii());
-    Err(Difference::told(&what, vec![comes_to(word as u64, given)]))
+    Err(Difference::told(&what, vec![comes_to(expected, given)]))
 }
 
 /// The bits that 9.4's syntax lines do not write: TG, BH and the hints of cache instructions.

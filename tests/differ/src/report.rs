@@ -1,8 +1,8 @@
 //! A difference, told so that the documents can judge it.
 
 use linked::REACHED;
-use second::registers::{GPRS, OTHERS};
-use second::{Core, Word};
+use second::registers::{others, GPRS};
+use second::{Core, Profile, Word};
 use std::fmt;
 
 /// How many differing bytes of a buffer are listed.
@@ -46,7 +46,7 @@ pub fn answers(expected: u64, given: u64) -> Vec<String> {
 fn name(place: usize) -> String {
     match place {
         0..16 => format!("r{}", GPRS[place]),
-        16..34 => OTHERS[place - 16].0.into(),
+        16..34 => others(Profile::Ppe42x)[place - 16].0.into(),
         34 => "IAR".into(),
         _ => "halt code".into(),
     }
@@ -75,11 +75,11 @@ pub fn buffers(name: &str, expected: &[u8], given: &[u8]) -> Vec<String> {
 }
 
 /// All registers on a line, and the word that is next.
-pub fn before(core: &Core, memory: &[u8], event: u8) -> String {
+pub fn before(profile: Profile, core: &Core, memory: &[u8], event: u8) -> String {
     let words = core.to_words().into_iter().enumerate();
     let registers: Vec<_> = words.map(|(i, word)| format!("{} {word:08X}", name(i))).collect();
     let word = word_at(memory, core.iar);
-    let next = match word.and_then(Word::kind) {
+    let next = match word.and_then(|word| word.kind(profile)) {
         Some(kind) => kind.mnemonic(),
         None => "no instruction",
     };

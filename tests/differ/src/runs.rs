@@ -1,10 +1,13 @@
 //! Runs and single steps, every byte of state, memory and answer.
 
 use crate::case::{bytes, Case};
+use crate::faults;
 use crate::report::{answers, before, buffers, states, word_at, Difference};
 use crate::tally::Tally;
+use crate::Subject;
 use draw::Urn;
-use linked::{Library, Play, Step, REACHED};
+use linked::REACHED;
+use second::Profile;
 
 /// What a run answered and what it left.
 #[derive(Clone, PartialEq)]
@@ -15,7 +18,7 @@ pub struct Run {
 }
 
 impl Run {
-    pub fn of(play: Play, start: &Case, events: &[u8], budget: u32) -> Run {
+    pub fn of(play: impl Plays, start: &Case, events: &[u8], budget: u32) -> Run {
         let (mut state, mut memory) = (start.state.clone(), start.memory.clone());
         let answer = play(&mut state, &mut memory, events, budget);
         Run { answer, state, memory }
@@ -45,10 +48,22 @@ impl Run {
     }
 }
 
+/// A function that plays a run, as `linked::Play` is.
+pub trait Plays: Fn(&mut [u8], &mut [u8], &[u8], u32) -> u64 + Copy {}
+
+impl<T: Fn(&mut [u8], &mut [u8], &[u8], u32) -> u64 + Copy> Plays for T {}
+
+/// A run of the second implementation.
+type Ours = fn(Profile, &mut [u8], &mut [u8], &[u8], u32) -> u64;
+
+fn ours(profile: Profile, play: Ours) -> impl Plays {
+    move |state: &mut [u8], memory: &mut [u8], events: &[u8], budget| play(profile, state, memory, events, budget)
+}
+
 /// The case step by step, each step counted, with the reach in the answer.
-pub fn refer(case: &Case, tally: &mut Tally) -> Run {
+pub fn refer(profile: Profile, case: &Case, tally: &mut Tally) -> Run {
     let mut memory = case.memory.clone();
-    let mut core = match second::accept(&case.state, &memory, &case.events, case.budget) {
+    let mut core = match second::accept(profile, &case.state, &memory, &case.events, case.budget) {
         Ok(core) => core,
         Err(refusal) => {
             tally.refuse_run(refusal);
@@ -59,8 +74,8 @@ pub fn refer(case: &Case, tally: &mut Tally) -> Run {
     let mut reached = false;
     while steps < case.budget && core.halt == 0 {
         let (tcr, event, word) = (core.tcr, event(case, steps), word_at(&memory, core.iar));
-        let outcome = core.step(&mut memory, event);
-        tally.step(outcome, tcr, event, word);
+        let outcome = core.step(profile, &mut memory, event);
+        tally.step(outcome, tcr, event, word, &core);
         reached |= outcome.reached();
         steps += 1;
     }
@@ -74,17 +89,18 @@ pub fn event(case: &Case, step: u32) -> u8 {
 }
 
 /// By both functions that run to the end; the library's own run with its reach, once it is seen to be the reference's.
-pub fn compare_run(library: &Library, case: &Case, reference: &Run) -> Result<Run, Difference> {
+pub fn compare_run(subject: &Subject, case: &Case, reference: &Run) -> Result<Run, Difference> {
     let silent = Run { answer: reference.answer & !REACHED, ..reference.clone() };
-    compare_play("run", case, library.run, second::run, &silent)?;
-    compare_play("run_reach", case, library.run_reach, second::run_reach, reference)
+    compare_play(subject, "run", case, subject.library.run, second::run, &silent)?;
+    compare_play(subject, "run_reach", case, subject.library.run_reach, second::run_reach, reference)
 }
 
 /// Up to the first step that reaches. `own` is what `compare_run` has seen of the library's other two runs: this one is
 /// the same where it tells no reach; else a run of a step less has not reached, and one of as many has.
-pub fn compare_inside(library: &Library, case: &Case, own: &Run, tally: &mut Tally) -> Result<(), Difference> {
-    let expected = Run::of(second::run_inside, case, &case.events, case.budget);
-    let given = compare_play("run_inside", case, library.run_inside, second::run_inside, &expected)?;
+pub fn compare_inside(subject: &Subject, case: &Case, own: &Run, tally: &mut Tally) -> Result<(), Difference> {
+    let library = &subject.library;
+    let expected = Run::of(ours(subject.profile, second::run_inside), case, &case.events, case.budget);
+    let given = compare_play(subject, "run_inside", case, library.run_inside, second::run_inside, &expected)?;
     tally.inside(given.reached());
     if !given.reached() {
         return unless_same(&given, own, "run_inside that tells no reach, and the run");
@@ -104,23 +120,31 @@ pub fn unless_same(given: &Run, expected: &Run, what: &str) -> Result<(), Differ
     Err(Difference::told(what, given.departures(expected)))
 }
 
-fn compare_play(what: &str, case: &Case, theirs: Play, ours: Play, expected: &Run) -> Result<Run, Difference> {
+fn compare_play(
+    subject: &Subject,
+    what: &str,
+    case: &Case,
+    theirs: impl Plays,
+    play: Ours,
+    expected: &Run,
+) -> Result<Run, Difference> {
     let given = Run::of(theirs, case, &case.events, case.budget);
     if given == *expected {
         return Ok(given);
     }
-    let place = if expected.accepted() { locate(case, theirs, ours) } else { "refused".into() };
+    let place = if expected.accepted() { locate(subject.profile, case, theirs, play) } else { "refused".into() };
     Err(Difference::told(&format!("{what} of {} steps: {place}", case.budget), given.departures(expected)))
 }
 
 /// The first step at which the library departs, as the second implementation comes to it.
-fn locate(case: &Case, theirs: Play, ours: Play) -> String {
+fn locate(profile: Profile, case: &Case, theirs: impl Plays, play: Ours) -> String {
+    let ours = ours(profile, play);
     for step in 0..case.budget {
         let given = Run::of(theirs, case, &case.events, step + 1);
         let expected = Run::of(ours, case, &case.events, step + 1);
         if given != expected {
             let start = Run::of(ours, case, &case.events, step);
-            let from = start_of(&start.state, &start.memory, event(case, step));
+            let from = start_of(profile, &start.state, &start.memory, event(case, step));
             let departures = given.departures(&expected).join("; ");
             return format!("step {step}: {from}\n  after it: {departures}\n  at the end:");
         }
@@ -129,23 +153,24 @@ fn locate(case: &Case, theirs: Play, ours: Play) -> String {
 }
 
 /// What a step starts from.
-pub fn start_of(state: &[u8], memory: &[u8], event: u8) -> String {
-    match second::accept(state, memory, &[], 0) {
-        Ok(core) => before(&core, memory, event),
+pub fn start_of(profile: Profile, state: &[u8], memory: &[u8], event: u8) -> String {
+    match second::accept(profile, state, memory, &[], 0) {
+        Ok(core) => before(profile, &core, memory, event),
         Err(refusal) => format!("refused with {refusal}"),
     }
 }
 
-/// One step from the same start.
-pub fn compare_step(library: &Library, case: &Case, urn: &mut Urn, tally: &mut Tally) -> Result<(), Difference> {
+/// One step from the same start, and of the library's alone what a fault may change.
+pub fn compare_step(subject: &Subject, case: &Case, urn: &mut Urn, tally: &mut Tally) -> Result<(), Difference> {
     let event = draw_event(case, urn);
-    let expected = step_of(second::step, case, event);
+    let profile = subject.profile;
+    let expected = step_of(|state, memory, event| second::step(profile, state, memory, event), case, event);
     tally.answer_step(expected.answer);
-    let given = step_of(library.step, case, event);
+    let given = step_of(subject.library.step, case, event);
     if given == expected {
-        return Ok(());
+        return faults::check(&subject.library, case, &given, event);
     }
-    let start = start_of(&case.state, &case.memory, event);
+    let start = start_of(profile, &case.state, &case.memory, event);
     Err(Difference::told(&format!("one step: {start}"), given.departures(&expected)))
 }
 
@@ -158,7 +183,7 @@ pub fn draw_event(case: &Case, urn: &mut Urn) -> u8 {
     }
 }
 
-fn step_of(step: Step, start: &Case, event: u8) -> Run {
+fn step_of(step: impl Fn(&mut [u8], &mut [u8], u8) -> u64, start: &Case, event: u8) -> Run {
     let (mut state, mut memory) = (start.state.clone(), start.memory.clone());
     let answer = step(&mut state, &mut memory, event);
     Run { answer, state, memory }

@@ -2,7 +2,7 @@
 
 use crate::case::ASKS;
 use second::registers::tcr;
-use second::{Asynchronous, Core, Fault, Kind, Outcome, Taken, Word};
+use second::{Asynchronous, Core, Fault, Kind, Outcome, Profile, Taken, Word};
 use std::collections::BTreeMap;
 use std::fmt;
 
@@ -15,6 +15,7 @@ const TOLD: usize = 13;
 const DOUBLEWORDS: [Kind; 4] = [Kind::Lvd, Kind::Lvdu, Kind::Stvd, Kind::Stvdu];
 
 pub struct Tally {
+    profile: Profile,
     pub cases: u64,
     pub steps: u64,
     pub reached: u64,
@@ -34,6 +35,14 @@ pub struct Tally {
     quiet: u64,
     /// Steps that access a doubleword and fault.
     doublewords_faulted: u64,
+    /// Steps of lsku and stsku that fault, by the place of the access, with those whose RA is one of r28 to r31; and
+    /// those served, by the doublewords of their frames up to five and then all.
+    frames_faulted: BTreeMap<(&'static str, &'static str), [u64; 2]>,
+    frames_served: BTreeMap<(&'static str, u32), u64>,
+    /// tw with TG, and of them those that only TG makes legal.
+    marks: [u64; 2],
+    /// Steps by TCR[DS].
+    clocks: [u64; 4],
     /// Cases in which more memory and a longer run were tried.
     pub grown: u64,
     executed: BTreeMap<&'static str, u64>,
@@ -51,9 +60,10 @@ pub struct Tally {
     captures_written: [u64; REFUSALS],
 }
 
-impl Default for Tally {
-    fn default() -> Tally {
+impl Tally {
+    pub fn of(profile: Profile) -> Tally {
         Tally {
+            profile,
             cases: 0,
             steps: 0,
             reached: 0,
@@ -67,8 +77,12 @@ impl Default for Tally {
             asked_refused: [0; REFUSALS],
             quiet: 0,
             doublewords_faulted: 0,
+            frames_faulted: BTreeMap::new(),
+            frames_served: BTreeMap::new(),
+            marks: [0; 2],
+            clocks: [0; 4],
             grown: 0,
-            executed: Kind::ALL.iter().map(|kind| (kind.mnemonic(), 0)).collect(),
+            executed: Kind::ALL.iter().filter(|kind| profile.has(**kind)).map(|kind| (kind.mnemonic(), 0)).collect(),
             waited: 0,
             interrupts: BTreeMap::new(),
             faults: BTreeMap::new(),
@@ -76,7 +90,7 @@ impl Default for Tally {
             halts: [0; 6],
             read: BTreeMap::new(),
             written: BTreeMap::new(),
-            timer_settings: vec![false; 1 << 10],
+            timer_settings: vec![false; 1 << tcr::defined(profile).count_ones()],
             runs: [0; REFUSALS],
             steps_refused: [0; REFUSALS],
             captures_read: [0; REFUSALS],
@@ -86,12 +100,13 @@ impl Default for Tally {
 }
 
 impl Tally {
-    /// Counts a step that started with this TCR and event, at this word if memory has one there.
-    pub fn step(&mut self, outcome: Outcome, tcr_before: u32, event: u8, word: Option<Word>) {
+    /// Counts a step that started with this TCR and event, at this word if memory has one there, and left this core.
+    pub fn step(&mut self, outcome: Outcome, tcr_before: u32, event: u8, word: Option<Word>, after: &Core) {
         self.steps += 1;
         self.reached += outcome.reached() as u64;
         self.quiet += (event == 0 && tcr_before & ASKS == 0) as u64;
-        self.timer_settings[(tcr_before & tcr::DEFINED) as usize >> 22] = true;
+        self.timer_settings[(tcr_before >> tcr::defined(self.profile).trailing_zeros()) as usize] = true;
+        self.clocks[((tcr_before & tcr::DS) >> tcr::DS_SHIFT) as usize] += 1;
         match outcome {
             Outcome::AlreadyHalted => {}
             Outcome::WatchdogActed => self.watchdog_acted += 1,
@@ -100,9 +115,26 @@ impl Tally {
             Outcome::Executed(kind) => self.execute(kind, word),
             Outcome::Faulted(fault, taken) => {
                 *self.faults.entry((synchronous(fault), how(taken))).or_default() += 1;
-                self.doublewords_faulted += is_doubleword(word) as u64;
+                self.doublewords_faulted += self.is_doubleword(word) as u64;
+                self.fault_frame(fault, word, after);
             }
         }
+    }
+
+    /// RA is still what it was, so that the place of the access can be told.
+    fn fault_frame(&mut self, fault: Fault, word: Option<Word>, after: &Core) {
+        let Some((word, kind)) = word.and_then(|word| Some((word, word.kind(self.profile)?))) else {
+            return;
+        };
+        if matches!(kind, Kind::Lsku | Kind::Stsku) {
+            let counts = self.frames_faulted.entry((kind.mnemonic(), place(fault, kind, word, after))).or_default();
+            counts[0] += 1;
+            counts[1] += (word.ra() >= 28) as u64;
+        }
+    }
+
+    fn is_doubleword(&self, word: Option<Word>) -> bool {
+        word.and_then(|word| word.kind(self.profile)).is_some_and(|kind| DOUBLEWORDS.contains(&kind))
     }
 
     fn execute(&mut self, kind: Kind, word: Option<Word>) {
@@ -110,6 +142,14 @@ impl Tally {
         match (kind, word) {
             (Kind::Mfspr, Some(word)) => *self.read.entry(word.spr()).or_default() += 1,
             (Kind::Mtspr, Some(word)) => *self.written.entry(word.spr()).or_default() += 1,
+            (Kind::Lsku | Kind::Stsku, Some(word)) => {
+                let doublewords = (word.frame() as i32).unsigned_abs() / 8;
+                *self.frames_served.entry((kind.mnemonic(), doublewords.min(6))).or_default() += 1;
+            }
+            (Kind::Tw, Some(word)) if word.tg() && self.profile.is_42x() => {
+                self.marks[0] += 1;
+                self.marks[1] += !second::legal(Profile::Ppe42, word.0) as u64;
+            }
             _ => {}
         }
     }
@@ -159,8 +199,19 @@ fn unaligned(access: u64) -> bool {
     matches!(bytes, 2 | 4) && !address.is_multiple_of(bytes)
 }
 
-fn is_doubleword(word: Option<Word>) -> bool {
-    word.and_then(Word::kind).is_some_and(|kind| DOUBLEWORDS.contains(&kind))
+/// Which access of a frame the fault is at.
+fn place(fault: Fault, kind: Kind, word: Word, core: &Core) -> &'static str {
+    let stack = core.gpr[word.ra()];
+    let ea = stack.wrapping_add(word.frame());
+    let upper = if kind == Kind::Lsku { ea } else { stack };
+    match fault {
+        Fault::Alignment { .. } => "stack pointer",
+        Fault::DataStorage { address, .. } if address == upper.wrapping_add(4) => "LR",
+        Fault::DataStorage { address, .. } if kind == Kind::Stsku && address == ea => "back pointer",
+        Fault::DataStorage { address, .. } if address == upper.wrapping_sub(8) => "r30 and r31",
+        Fault::DataStorage { address, .. } if address == upper.wrapping_sub(16) => "r28 and r29",
+        _ => "elsewhere",
+    }
 }
 
 fn asynchronous(cause: Asynchronous) -> &'static str {
@@ -205,6 +256,9 @@ impl fmt::Display for Tally {
         let served: u64 = DOUBLEWORDS.iter().map(|kind| self.executed[kind.mnemonic()]).sum();
         let doublewords = served + self.doublewords_faulted;
         writeln!(f, "{doublewords} steps that access a doubleword, {served} of them served")?;
+        if self.profile.is_42x() {
+            self.write_42x(f)?;
+        }
         writeln!(f, "{} cases run again with more memory and a longer run", self.grown)?;
         writeln!(f, "executed:")?;
         for row in self.executed.iter().collect::<Vec<_>>().chunks(6) {
@@ -230,6 +284,21 @@ impl fmt::Display for Tally {
         writeln!(f, "steps asked by refusal: {}", list(&self.asked_refused))?;
         writeln!(f, "captures read by refusal: {}", list(&self.captures_read))?;
         write!(f, "captures written by refusal: {}", list(&self.captures_written))
+    }
+}
+
+impl Tally {
+    /// What the 42X has besides.
+    fn write_42x(&self, f: &mut fmt::Formatter) -> fmt::Result {
+        for ((mnemonic, doublewords), count) in &self.frames_served {
+            let more = if *doublewords > 5 { " or more" } else { "" };
+            writeln!(f, "{count} frames of {doublewords}{more} doublewords served, {mnemonic}")?;
+        }
+        for ((mnemonic, place), [count, in_pairs]) in &self.frames_faulted {
+            writeln!(f, "{count} faults of {mnemonic} at {place}, {in_pairs} of them with RA in r28 to r31")?;
+        }
+        writeln!(f, "{} tw with TG, {} of them illegal on a 42", self.marks[0], self.marks[1])?;
+        writeln!(f, "steps by TCR[DS]: {}", list(&self.clocks))
     }
 }
 

@@ -1,16 +1,25 @@
 //! That the comparison can fail: each core below has one flaw, and each is caught.
 
-use differ::{compare, Tally};
+use differ::{compare, Subject, Tally};
 use draw::Urn;
-use linked::{Library, LINKED, REACHED};
+use linked::{Library, LINKED, LINKED_42X, REACHED};
 use second::registers::{isr, msr, tcr, tsr, xer};
+use second::Profile::{self, Ppe42, Ppe42x};
 use second::{Access, Asynchronous, Core, Fault, Kind, Outcome, Taken, Word};
 use std::cell::Cell;
 
 const CASES: u64 = 50_000;
 
+/// As the core that is set.
 fn caught(library: &Library) -> bool {
-    (0..CASES).any(|case| compare(library, &mut Urn::of_case(7, case), &mut Tally::default()).is_err())
+    let subject = Subject { profile: PROFILE.get(), library: *library };
+    let mut tally = Tally::of(subject.profile);
+    (0..CASES).any(|case| compare(&subject, &mut Urn::of_case(7, case), &mut tally).is_err())
+}
+
+/// The linked library's functions of the core that is set.
+fn linked() -> Library {
+    Subject::linked(PROFILE.get()).library
 }
 
 /// Changes the core after a step, given how it was before and what the step came to.
@@ -75,7 +84,7 @@ struct Tried {
 
 impl Tried {
     fn of(core: &Core, memory: &[u8], event: u8) -> Option<Tried> {
-        let access = core.access(memory, event).filter(|access| access.bytes <= 8)?;
+        let access = core.access(PROFILE.get(), memory, event).filter(|access| access.bytes <= 8)?;
         let word = Word(u32::from_be_bytes(*memory[core.iar as usize..].first_chunk()?));
         let (at, bytes) = (access.address as usize, access.bytes as usize);
         Some(Tried { core: core.clone(), memory: memory.to_vec(), word, at, bytes })
@@ -135,7 +144,7 @@ const PAIR_FLAWS: [(&str, AccessFlaw); 7] = [
         }
     }),
     ("a fault leaves its address in RA", |tried, outcome, after, _| {
-        if matches!(outcome, Outcome::Faulted(..)) && matches!(tried.word.kind(), Some(Kind::Lvdu | Kind::Stvdu)) {
+        if matches!(outcome, Outcome::Faulted(..)) && matches!(tried.word.kind(Ppe42), Some(Kind::Lvdu | Kind::Stvdu)) {
             after.gpr[tried.word.ra()] = tried.at as u32;
         }
     }),
@@ -184,23 +193,219 @@ const WRONGLY: [(&str, Tell); 7] = [
 ];
 
 thread_local! {
+    static PROFILE: Cell<Profile> = const { Cell::new(Ppe42) };
     static FLAW: Cell<Flaw> = const { Cell::new(|_, _, _| ()) };
     static ACCESS_FLAW: Cell<AccessFlaw> = const { Cell::new(|_, _, _, _| ()) };
+    static WORD_FLAW: Cell<Option<WordFlaw>> = const { Cell::new(None) };
+    static PLAYED: Cell<Played> = const { Cell::new(|profile, _| profile) };
+    static SEEN: Cell<Seen> = const { Cell::new(|_, event| event) };
     static TELL: Cell<Tell> = const { Cell::new(RIGHTLY) };
+}
+
+/// A step's word, the core and memory before it, and what it came to.
+struct Step<'a> {
+    word: Word,
+    before: &'a Core,
+    memory: &'a [u8],
+    outcome: Outcome,
+}
+
+impl Step<'_> {
+    /// The stack pointer of a frame, and the EA.
+    fn ends(&self) -> [u32; 2] {
+        let stack = self.before.gpr[self.word.ra()];
+        [stack, stack.wrapping_add(self.word.frame())]
+    }
+
+    /// Whether it is this instruction and faults in an access that memory does not serve, and the address of that.
+    fn outside(&self, kind: Kind) -> Option<u32> {
+        match self.outcome {
+            Outcome::Faulted(Fault::DataStorage { address, .. }, _) if self.word.kind(Ppe42x) == Some(kind) => {
+                Some(address)
+            }
+            _ => None,
+        }
+    }
+
+    fn executed(&self, kind: Kind) -> bool {
+        self.outcome == Outcome::Executed(kind)
+    }
+
+    /// The word of memory before the step there, if there is one.
+    fn load(&self, address: u32) -> Option<u32> {
+        Some(u32::from_be_bytes(*self.memory.get(address as usize..)?.first_chunk()?))
+    }
+}
+
+fn store(memory: &mut [u8], address: u32, value: u32) {
+    if let Some(bytes) = memory.get_mut(address as usize..).and_then(|rest| rest.first_chunk_mut()) {
+        *bytes = value.to_be_bytes();
+    }
+}
+
+/// Changes core and memory after a step.
+type WordFlaw = fn(&Step, &mut Core, &mut [u8]);
+
+const FRAME_FLAWS: [(&str, WordFlaw); 12] = [
+    ("lsku writes RA before LR is read", |step, after, _| {
+        let [_, ea] = step.ends();
+        if step.outside(Kind::Lsku) == Some(ea.wrapping_add(4)) {
+            after.gpr[step.word.ra()] = ea;
+        }
+    }),
+    ("lsku loads LR first", |step, after, _| {
+        let link = step.ends()[1].wrapping_add(4);
+        if step.outside(Kind::Lsku).is_some_and(|address| address != link) {
+            after.lr = step.load(link).unwrap_or(after.lr);
+        }
+    }),
+    ("lsku loads RA from its own pair", |step, after, _| {
+        let ([_, ea], ra) = (step.ends(), step.word.ra());
+        let loaded = match (step.outside(Kind::Lsku), ra) {
+            (Some(address), 30 | 31) => address != ea.wrapping_sub(8) && step.word.dd() > 1,
+            (Some(address), 28 | 29) => address == ea.wrapping_add(4) && step.word.dd() > 2,
+            _ => false,
+        };
+        if loaded {
+            after.gpr[ra] = step.load(ea.wrapping_sub(128 - 4 * ra as u32)).expect("it was loaded");
+        }
+    }),
+    ("lsku loads all or nothing", |step, after, _| {
+        if step.outside(Kind::Lsku).is_some() {
+            after.gpr = step.before.gpr;
+        }
+    }),
+    ("lsku has room for one doubleword more", |step, after, _| {
+        let [stack, ea] = step.ends();
+        if step.executed(Kind::Lsku) && ea.wrapping_sub(stack) == 8 && step.word.ra() < 28 {
+            after.gpr[30] = step.load(ea.wrapping_sub(8)).unwrap_or(after.gpr[30]);
+        }
+    }),
+    ("a frame leaves EDR", |step, after, _| {
+        if step.executed(Kind::Lsku) || step.executed(Kind::Stsku) {
+            after.edr = step.before.edr;
+        }
+    }),
+    ("a frame's fault has EDR at its EA", |step, after, _| {
+        if step.outside(Kind::Lsku).or(step.outside(Kind::Stsku)).is_some() {
+            after.edr = step.ends()[1];
+        }
+    }),
+    ("stsku stores the back pointer first", |step, _, memory| {
+        let [stack, ea] = step.ends();
+        if step.outside(Kind::Stsku).is_some_and(|address| address != ea) {
+            store(memory, ea, stack);
+        }
+    }),
+    ("stsku stores all or nothing", |step, _, memory| {
+        if step.outside(Kind::Stsku).is_some() {
+            memory.copy_from_slice(step.memory);
+        }
+    }),
+    ("stsku counts by two's complement", |step, _, memory| {
+        let [stack, ea] = step.ends();
+        if step.executed(Kind::Stsku) && stack.wrapping_sub(ea) == 8 {
+            store(memory, stack.wrapping_sub(4), step.before.gpr[31]);
+        }
+    }),
+    ("stsku stores the new stack pointer", |step, _, memory| {
+        if step.executed(Kind::Stsku) {
+            store(memory, step.ends()[1], step.ends()[1]);
+        }
+    }),
+    ("a stack pointer is aligned by four", |step, after, _| {
+        if let Outcome::Faulted(Fault::Alignment { address, .. }, _) = step.outcome {
+            if address % 4 == 0 && matches!(step.word.kind(Ppe42x), Some(Kind::Lsku | Kind::Stsku)) {
+                *after = Core { iar: step.before.iar.wrapping_add(4), ..step.before.clone() };
+            }
+        }
+    }),
+];
+
+const OTHER_FLAWS: [(&str, WordFlaw); 4] = [
+    ("mullwo only sets OV", |step, after, _| {
+        if step.executed(Kind::Mullw) {
+            after.xer |= step.before.xer & xer::OV;
+        }
+    }),
+    ("mullwo takes an unsigned product", |step, after, _| {
+        let [a, b] = [step.word.ra(), step.word.rb()].map(|number| step.before.gpr[number] as u64);
+        if step.executed(Kind::Mullw) && step.word.oe() && a * b > u32::MAX as u64 {
+            after.xer |= xer::SO | xer::OV;
+        }
+    }),
+    ("CR0 of a doubleword is that of its low-order word", |step, after, _| {
+        let rotates = matches!(step.outcome, Outcome::Executed(Kind::Rldicl | Kind::Rldicr | Kind::Rldimi));
+        if rotates && step.word.rc() && after.gpr[(step.word.ra() + 1) % 32] == 0 {
+            after.cr = after.cr & second::registers::cr::SO | second::registers::cr::EQ;
+        }
+    }),
+    ("a machine check goes to 000", |step, after, _| {
+        if matches!(step.outcome, Outcome::Faulted(_, Taken::Promoted)) {
+            after.iar = after.ivpr;
+        }
+    }),
+];
+
+/// As which core a step is played whose word is this.
+type Played = fn(Profile, Word) -> Profile;
+
+fn is_tw_with_tg(word: Word) -> bool {
+    word.0 >> 26 == 31 && word.0 & 0x7FF == 4 << 1 | 1
+}
+
+const PLAYED_AS_42: [(&str, Played); 2] = [
+    ("tw with TG traps", |profile, word| if is_tw_with_tg(word) { Ppe42 } else { profile }),
+    (
+        "mtspr keeps what the 42 defines",
+        |profile, word| {
+            if word.kind(profile) == Some(Kind::Mtspr) {
+                Ppe42
+            } else {
+                profile
+            }
+        },
+    ),
+];
+
+const PLAYED_AS_42X: [(&str, Played); 3] = [
+    ("the 42 has mulli", |profile, word| if word.kind(Ppe42x) == Some(Kind::Mulli) { Ppe42x } else { profile }),
+    ("the 42 has lsku", |profile, word| if word.kind(Ppe42x) == Some(Kind::Lsku) { Ppe42x } else { profile }),
+    ("the 42 looks at TG", |profile, word| if is_tw_with_tg(word) { Ppe42x } else { profile }),
+];
+
+/// The event that a step sees.
+type Seen = fn(&Core, u8) -> u8;
+
+/// Exchanges timers 1 and 3 where they drive nothing but DEC.
+fn exchanged(core: &Core, event: u8) -> u8 {
+    let odd = (core.tcr & tcr::WP) >> tcr::WP_SHIFT | (core.tcr & tcr::FP) >> tcr::FP_SHIFT;
+    if odd & 1 == 0 {
+        event & !0b101000 | (event & 8) << 2 | (event & 32) >> 2
+    } else {
+        event
+    }
 }
 
 /// A run of the second implementation with the flaws, which tells its reach as it is set to, to the end or up to that.
 fn flawed(to_the_end: bool, state: &mut [u8], memory: &mut [u8], events: &[u8], budget: u32) -> u64 {
-    let Ok(mut core) = second::accept(state, memory, events, budget) else {
-        return second::run_reach(state, memory, events, budget);
+    let profile = PROFILE.get();
+    let Ok(mut core) = second::accept(profile, state, memory, events, budget) else {
+        return second::run_reach(profile, state, memory, events, budget);
     };
     let mut steps = 0;
     let mut reached = false;
     while steps < budget && core.halt == 0 && (to_the_end || !reached) {
-        let event = events.get(steps as usize).copied().unwrap_or(0);
+        let event = SEEN.get()(&core, events.get(steps as usize).copied().unwrap_or(0));
         let (before, tried) = (core.clone(), Tried::of(&core, memory, event));
-        let outcome = core.step(memory, event);
+        let word = memory.get(core.iar as usize..).and_then(|rest| rest.first_chunk());
+        let word = Word(word.map_or(0, |bytes| u32::from_be_bytes(*bytes)));
+        let kept = WORD_FLAW.get().map(|flaw| (flaw, memory.to_vec()));
+        let outcome = core.step(PLAYED.get()(profile, word), memory, event);
         FLAW.get()(&before, outcome, &mut core);
+        if let Some((flaw, kept)) = kept {
+            flaw(&Step { word, before: &before, memory: &kept, outcome }, &mut core, memory);
+        }
         if let Some(tried) = tried {
             ACCESS_FLAW.get()(&tried, outcome, &mut core, memory);
         }
@@ -226,9 +431,55 @@ fn flawed_run(state: &mut [u8], memory: &mut [u8], events: &[u8], budget: u32) -
 
 /// That what is set is caught in each of the three runs.
 fn assert_caught(name: &str) {
-    assert!(caught(&Library { run: flawed_run, ..LINKED }), "{name}");
-    assert!(caught(&Library { run_reach: flawed_run_reach, ..LINKED }), "{name}, where the reach is told");
-    assert!(caught(&Library { run_inside: flawed_run_inside, ..LINKED }), "{name}, up to the reach");
+    assert!(caught(&Library { run: flawed_run, ..linked() }), "{name}");
+    assert!(caught(&Library { run_reach: flawed_run_reach, ..linked() }), "{name}, where the reach is told");
+    assert!(caught(&Library { run_inside: flawed_run_inside, ..linked() }), "{name}, up to the reach");
+}
+
+#[test]
+fn flaws_of_what_the_42x_has_besides() {
+    PROFILE.set(Ppe42x);
+    for (name, flaw) in FRAME_FLAWS.into_iter().chain(OTHER_FLAWS) {
+        WORD_FLAW.set(Some(flaw));
+        assert_caught(name);
+    }
+}
+
+#[test]
+fn flaws_of_the_wrong_core() {
+    for (profile, flaws) in [(Ppe42, &PLAYED_AS_42X[..]), (Ppe42x, &PLAYED_AS_42[..])] {
+        PROFILE.set(profile);
+        for (name, played) in flaws {
+            PLAYED.set(*played);
+            assert_caught(name);
+        }
+    }
+}
+
+#[test]
+fn flaw_of_the_decrementers_clock() {
+    PROFILE.set(Ppe42x);
+    SEEN.set(exchanged);
+    assert_caught("DS 01 and 11 are exchanged");
+}
+
+/// Each function of the other core in its place.
+#[test]
+fn functions_of_the_other_core() {
+    for (profile, right, wrong) in [(Ppe42, LINKED, LINKED_42X), (Ppe42x, LINKED_42X, LINKED)] {
+        PROFILE.set(profile);
+        assert!(!caught(&right));
+        assert!(caught(&Library { legal: wrong.legal, ..right }));
+        assert!(caught(&Library { rewrite: wrong.rewrite, ..right }));
+        assert!(caught(&Library { run: wrong.run, ..right }));
+        assert!(caught(&Library { run_reach: wrong.run_reach, ..right }));
+        assert!(caught(&Library { run_inside: wrong.run_inside, ..right }));
+        assert!(caught(&Library { step: wrong.step, ..right }));
+        assert!(caught(&Library { tell: wrong.tell, ..right }));
+        assert!(caught(&Library { access: wrong.access, ..right }));
+        assert!(caught(&Library { capture_check: wrong.capture_check, ..right }));
+        assert!(caught(&Library { capture_write: wrong.capture_write, ..right }));
+    }
 }
 
 #[test]
@@ -344,23 +595,44 @@ const ACCESSED_WRONGLY: [(&str, Accesses); 10] = [
     }),
 ];
 
+/// The same of frames.
+const FRAMES_WRONGLY: [(&str, Accesses); 4] = [
+    ("a frame has no header", |access, _, _| {
+        access.map(|access| Access { bytes: if access.bytes > 8 { access.bytes - 8 } else { access.bytes }, ..access })
+    }),
+    ("a frame is the word of LR", |access, outcome, core| match outcome {
+        Outcome::Executed(Kind::Lsku) => access.map(|access| Access { address: core.edr, bytes: 4, ..access }),
+        _ => access,
+    }),
+    ("a frame is only read", |access, outcome, _| match outcome {
+        Outcome::Executed(Kind::Stsku) => access.map(|access| Access { writes: false, ..access }),
+        _ => access,
+    }),
+    ("a frame that faults is the access that does", |access, outcome, _| match outcome {
+        Outcome::Faulted(Fault::DataStorage { address, .. }, _) => access.map(|access| Access { address, ..access }),
+        _ => access,
+    }),
+];
+
 thread_local! {
     static TOLD: Cell<Told> = const { Cell::new(|_, outcome, _, _| outcome.told()) };
     static ACCESSES: Cell<Accesses> = const { Cell::new(|access, _, _| access) };
 }
 
 fn flawed_tell(state: &mut [u8], memory: &mut [u8], event: u8) -> u64 {
-    match second::accept(state, memory, &[event], 1) {
-        Ok(core) => TOLD.get()(&core, core.tell(memory, event), event, memory.len()) as u64,
+    match second::accept(PROFILE.get(), state, memory, &[event], 1) {
+        Ok(core) => TOLD.get()(&core, core.tell(PROFILE.get(), memory, event), event, memory.len()) as u64,
         Err(refusal) => (refusal as u64) << 32,
     }
 }
 
 fn flawed_access(state: &mut [u8], memory: &mut [u8], event: u8) -> u64 {
-    let Ok(core) = second::accept(state, memory, &[event], 1) else {
+    let profile = PROFILE.get();
+    let Ok(core) = second::accept(profile, state, memory, &[event], 1) else {
         return 0;
     };
-    ACCESSES.get()(core.access(memory, event), core.tell(memory, event), &core).map_or(0, Access::answer)
+    let (access, told) = (core.access(profile, memory, event), core.tell(profile, memory, event));
+    ACCESSES.get()(access, told, &core).map_or(0, Access::answer)
 }
 
 #[test]
@@ -381,16 +653,26 @@ fn flaws_of_telling_an_access() {
     }
 }
 
+#[test]
+fn flaws_of_telling_a_frame() {
+    PROFILE.set(Ppe42x);
+    assert!(!caught(&Library { access: flawed_access, ..LINKED_42X }));
+    for (name, accesses) in FRAMES_WRONGLY {
+        ACCESSES.set(accesses);
+        assert!(caught(&Library { access: flawed_access, ..LINKED_42X }), "{name}");
+    }
+}
+
 fn lhzu_into_its_base_is_legal(word: u32) -> u32 {
-    (word >> 26 == 41 && word >> 21 & 31 == word >> 16 & 31 || second::legal(word)) as u32
+    (word >> 26 == 41 && word >> 21 & 31 == word >> 16 & 31 || second::legal(Ppe42, word)) as u32
 }
 
 fn lvdu_into_its_base_is_legal(word: u32) -> u32 {
-    (word >> 26 == 9 && (word >> 21 & 31) + 1 == word >> 16 & 31 || second::legal(word)) as u32
+    (word >> 26 == 9 && (word >> 21 & 31) + 1 == word >> 16 & 31 || second::legal(Ppe42, word)) as u32
 }
 
 fn register_10_begins_a_pair(word: u32) -> u32 {
-    (word >> 21 == 5 << 5 | 10 || second::legal(word)) as u32
+    (word >> 21 == 5 << 5 | 10 || second::legal(Ppe42, word)) as u32
 }
 
 fn branch_hint_is_lost(word: u32) -> u64 {
@@ -399,30 +681,30 @@ fn branch_hint_is_lost(word: u32) -> u64 {
 }
 
 fn halting_step_is_not_counted(state: &mut [u8], memory: &mut [u8], events: &[u8], budget: u32) -> u64 {
-    let steps = second::run(state, memory, events, budget);
+    let steps = second::run(Ppe42, state, memory, events, budget);
     steps - (steps > 0 && steps < budget as u64) as u64
 }
 
 fn halt_code_is_checked_before_iar(state: &mut [u8], memory: &mut [u8], events: &[u8], budget: u32) -> u64 {
-    match second::run(state, memory, events, budget) {
+    match second::run(Ppe42, state, memory, events, budget) {
         0x2_0000_0000 if state[143] > 5 => 0x3_0000_0000,
         answer => answer,
     }
 }
 
 fn event_64_is_taken(state: &mut [u8], memory: &mut [u8], event: u8) -> u64 {
-    second::step(state, memory, event & !64)
+    second::step(Ppe42, state, memory, event & !64)
 }
 
 fn refused_run_reaches(state: &mut [u8], memory: &mut [u8], events: &[u8], budget: u32) -> u64 {
-    match second::run_reach(state, memory, events, budget) {
+    match second::run_reach(Ppe42, state, memory, events, budget) {
         refusal @ 0x1_0000_0000..REACHED => refusal | REACHED,
         answer => answer,
     }
 }
 
 fn reach_is_not_counted(state: &mut [u8], memory: &mut [u8], events: &[u8], budget: u32) -> u64 {
-    match second::run_inside(state, memory, events, budget) {
+    match second::run_inside(Ppe42, state, memory, events, budget) {
         reached @ REACHED.. => reached - 1,
         answer => answer,
     }
@@ -430,23 +712,23 @@ fn reach_is_not_counted(state: &mut [u8], memory: &mut [u8], events: &[u8], budg
 
 fn reach_is_not_taken(state: &mut [u8], memory: &mut [u8], events: &[u8], budget: u32) -> u64 {
     let (state_before, memory_before) = (state.to_vec(), memory.to_vec());
-    let answer = second::run_inside(state, memory, events, budget);
+    let answer = second::run_inside(Ppe42, state, memory, events, budget);
     if answer & REACHED != 0 {
         state.copy_from_slice(&state_before);
         memory.copy_from_slice(&memory_before);
-        second::run(state, memory, events, answer as u32 - 1);
+        second::run(Ppe42, state, memory, events, answer as u32 - 1);
     }
     answer
 }
 
 fn told_step_is_taken(state: &mut [u8], memory: &mut [u8], event: u8) -> u64 {
-    let told = second::tell(state, memory, event);
-    second::step(state, memory, event);
+    let told = second::tell(Ppe42, state, memory, event);
+    second::step(Ppe42, state, memory, event);
     told
 }
 
 fn told_store_is_done(state: &mut [u8], memory: &mut [u8], event: u8) -> u64 {
-    let access = second::access(state, memory, event);
+    let access = second::access(Ppe42, state, memory, event);
     if access & REACHED != 0 {
         memory.iter_mut().skip(access as u32 as usize).take(1).for_each(|byte| *byte = !*byte);
     }
@@ -454,54 +736,54 @@ fn told_store_is_done(state: &mut [u8], memory: &mut [u8], event: u8) -> u64 {
 }
 
 fn event_64_is_told(state: &mut [u8], memory: &mut [u8], event: u8) -> u64 {
-    second::tell(state, memory, event & !64)
+    second::tell(Ppe42, state, memory, event & !64)
 }
 
 fn event_is_not_seen(state: &mut [u8], memory: &mut [u8], event: u8) -> u64 {
-    second::tell(state, memory, if event < 64 { 0 } else { event })
+    second::tell(Ppe42, state, memory, if event < 64 { 0 } else { event })
 }
 
 fn interrupts_do_not_come_first(state: &mut [u8], memory: &mut [u8], event: u8) -> u64 {
-    second::access(state, memory, if event < 64 { 0 } else { event })
+    second::access(Ppe42, state, memory, if event < 64 { 0 } else { event })
 }
 
 fn refused_tell_has_a_count(state: &mut [u8], memory: &mut [u8], event: u8) -> u64 {
-    match second::tell(state, memory, event) {
+    match second::tell(Ppe42, state, memory, event) {
         refusal @ 0x1_0000_0000.. => refusal | 1,
         told => told,
     }
 }
 
 fn access_is_refused(state: &mut [u8], memory: &mut [u8], event: u8) -> u64 {
-    match second::tell(state, memory, event) {
+    match second::tell(Ppe42, state, memory, event) {
         refusal @ 0x1_0000_0000.. => refusal,
-        _ => second::access(state, memory, event),
+        _ => second::access(Ppe42, state, memory, event),
     }
 }
 
 fn form_0_is_read(file: &[u8]) -> u64 {
     match file {
-        [rest @ .., 0] => second::capture_check(&[rest, &[1]].concat()),
-        _ => second::capture_check(file),
+        [rest @ .., 0] => second::capture_check(Ppe42, &[rest, &[1]].concat()),
+        _ => second::capture_check(Ppe42, file),
     }
 }
 
 fn refused_capture_has_a_memory(file: &[u8]) -> u64 {
-    match second::capture_check(file) {
+    match second::capture_check(Ppe42, file) {
         refusal @ 0x1_0000_0000.. => refusal | file.len().saturating_sub(156) as u64,
         length => length,
     }
 }
 
 fn file_is_all_memory(file: &[u8]) -> u64 {
-    match second::capture_check(file) {
+    match second::capture_check(Ppe42, file) {
         refusal @ 0x1_0000_0000.. => refusal,
         _ => file.len() as u64,
     }
 }
 
 fn byte_after_a_capture_is_cleared(state: &[u8], memory: &[u8], out: &mut [u8]) -> u64 {
-    let answer = second::capture_write(state, memory, out);
+    let answer = second::capture_write(Ppe42, state, memory, out);
     if answer >> 32 == 0 {
         out[answer as usize..].iter_mut().take(1).for_each(|byte| *byte = 0);
     }
@@ -516,10 +798,10 @@ fn flaws_of_single_functions() {
     assert!(caught(&Library { rewrite: branch_hint_is_lost, ..LINKED }));
     assert!(caught(&Library { run: halting_step_is_not_counted, ..LINKED }));
     assert!(caught(&Library { run: halt_code_is_checked_before_iar, ..LINKED }));
-    assert!(caught(&Library { run: second::run_reach, ..LINKED }));
+    assert!(caught(&Library { run: LINKED.run_reach, ..LINKED }));
     assert!(caught(&Library { run_reach: refused_run_reaches, ..LINKED }));
-    assert!(caught(&Library { run_inside: second::run, ..LINKED }));
-    assert!(caught(&Library { run_inside: second::run_reach, ..LINKED }));
+    assert!(caught(&Library { run_inside: LINKED.run, ..LINKED }));
+    assert!(caught(&Library { run_inside: LINKED.run_reach, ..LINKED }));
     assert!(caught(&Library { run_inside: reach_is_not_counted, ..LINKED }));
     assert!(caught(&Library { run_inside: reach_is_not_taken, ..LINKED }));
     assert!(caught(&Library { step: event_64_is_taken, ..LINKED }));
@@ -536,17 +818,65 @@ fn flaws_of_single_functions() {
     assert!(caught(&Library { capture_write: byte_after_a_capture_is_cleared, ..LINKED }));
 }
 
+fn context_is_loaded(word: u32) -> u32 {
+    second::legal(Ppe42x, if word >> 26 == 58 { word & !4 } else { word }) as u32
+}
+
+fn lsku_may_load_nothing(word: u32) -> u32 {
+    (second::legal(Ppe42x, word) || second::legal(Ppe42x, word | 8) && word >> 26 == 58) as u32
+}
+
+fn stsku_may_go_up(word: u32) -> u32 {
+    second::legal(Ppe42x, if word >> 26 == 62 { word | 0x8000 } else { word }) as u32
+}
+
+fn rldic_is_legal(word: u32) -> u32 {
+    second::legal(Ppe42x, if word >> 26 == 30 { word & !8 } else { word }) as u32
+}
+
+fn any_register_begins_a_target(word: u32) -> u32 {
+    second::legal(Ppe42x, if word >> 21 & 0x7FF == word >> 16 & 31 | 30 << 5 { 30 << 26 } else { word }) as u32
+}
+
+fn high_bit_of_a_mask_is_lost(word: u32) -> u64 {
+    (LINKED_42X.rewrite)(word) & !if word >> 26 == 30 { 1 << 5 } else { 0 }
+}
+
+fn tg_is_lost(word: u32) -> u64 {
+    (LINKED_42X.rewrite)(word) & !(is_tw_with_tg(Word(word)) as u64)
+}
+
+#[test]
+fn flaws_of_single_functions_of_the_42x() {
+    PROFILE.set(Ppe42x);
+    assert!(caught(&Library { legal: context_is_loaded, ..LINKED_42X }));
+    assert!(caught(&Library { legal: lsku_may_load_nothing, ..LINKED_42X }));
+    assert!(caught(&Library { legal: stsku_may_go_up, ..LINKED_42X }));
+    assert!(caught(&Library { legal: rldic_is_legal, ..LINKED_42X }));
+    assert!(caught(&Library { legal: any_register_begins_a_target, ..LINKED_42X }));
+    assert!(caught(&Library { rewrite: high_bit_of_a_mask_is_lost, ..LINKED_42X }));
+    assert!(caught(&Library { rewrite: tg_is_lost, ..LINKED_42X }));
+}
+
 #[test]
 fn the_second_implementation_agrees_with_itself() {
-    assert!(!caught(&Library {
-        run: second::run,
-        run_reach: second::run_reach,
-        run_inside: second::run_inside,
-        step: second::step,
-        capture_check: second::capture_check,
-        capture_write: second::capture_write,
-        tell: |state, memory, event| second::tell(state, memory, event),
-        access: |state, memory, event| second::access(state, memory, event),
-        ..LINKED
-    }));
+    for profile in Profile::BOTH {
+        PROFILE.set(profile);
+        assert!(!caught(&of_second()));
+    }
+}
+
+/// The second implementation's functions of the core that is set, without the library's C names.
+fn of_second() -> Library {
+    Library {
+        run: |state, memory, events, budget| second::run(PROFILE.get(), state, memory, events, budget),
+        run_reach: |state, memory, events, budget| second::run_reach(PROFILE.get(), state, memory, events, budget),
+        run_inside: |state, memory, events, budget| second::run_inside(PROFILE.get(), state, memory, events, budget),
+        step: |state, memory, event| second::step(PROFILE.get(), state, memory, event),
+        capture_check: |file| second::capture_check(PROFILE.get(), file),
+        capture_write: |state, memory, out| second::capture_write(PROFILE.get(), state, memory, out),
+        tell: |state, memory, event| second::tell(PROFILE.get(), state, memory, event),
+        access: |state, memory, event| second::access(PROFILE.get(), state, memory, event),
+        ..linked()
+    }
 }

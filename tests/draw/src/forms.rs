@@ -2,6 +2,7 @@
 //! reader can be held against it.
 
 use crate::urn::Urn;
+use std::sync::LazyLock;
 
 /// The sixteen defined registers; the first is the one that bases of update forms leave out.
 pub const REGISTERS: [u32; 16] = [0, 1, 2, 3, 4, 5, 6, 7, 8, 9, 10, 13, 28, 29, 30, 31];
@@ -26,6 +27,12 @@ enum Values {
     },
     Listed(&'static [u32]),
     Sprs(&'static [u32]),
+    /// A listed value that stands in this field of five bits and in the next one to the left.
+    Twice(&'static [u32]),
+    /// Thirteen bits of doublewords, from the least on and mostly near it; a negative number from -1 down.
+    Frame {
+        negative: bool,
+    },
 }
 
 /// Values, and how far the field stands from the word's right end.
@@ -48,7 +55,9 @@ impl Field {
     fn count(&self) -> u64 {
         match self.values {
             Values::Any { width } | Values::Offset { width, .. } => 1 << width,
-            Values::Listed(values) | Values::Sprs(values) => values.len() as u64,
+            Values::Listed(values) | Values::Sprs(values) | Values::Twice(values) => values.len() as u64,
+            Values::Frame { negative: false } => MOST_FRAME as u64,
+            Values::Frame { negative: true } => MOST_FRAME as u64 + 1,
         }
     }
 
@@ -57,7 +66,8 @@ impl Field {
         let width = match self.values {
             Values::Any { width } | Values::Offset { width, .. } => width,
             Values::Listed(_) => 5,
-            Values::Sprs(_) => 10,
+            Values::Sprs(_) | Values::Twice(_) => 10,
+            Values::Frame { .. } => 13,
         };
         ((1 << width) - 1) << self.shift
     }
@@ -68,6 +78,8 @@ impl Field {
             Values::Offset { width, unit } => draw_offset(urn, unit) & ((1 << width) - 1),
             Values::Listed(values) => urn.pick(values),
             Values::Sprs(numbers) => swapped(urn.pick(numbers)),
+            Values::Twice(values) => urn.pick(values) * (1 << 5 | 1),
+            Values::Frame { negative } => draw_frame(urn, negative),
         };
         value << self.shift
     }
@@ -84,6 +96,24 @@ fn draw_offset(urn: &mut Urn, unit: u32) -> u32 {
         3..=4 => urn.below(32).wrapping_sub(16),
         5 => urn.pick(&[0, 1, 0x7FFF, 0x8000, 0xFFFF]),
         _ => urn.word(),
+    }
+}
+
+/// The most doublewords of a frame that is positive; a negative one may have one more.
+const MOST_FRAME: u32 = 4095;
+
+fn draw_frame(urn: &mut Urn, negative: bool) -> u32 {
+    let most = MOST_FRAME + negative as u32;
+    let doublewords = match urn.below(8) {
+        0..=4 => 1 + urn.below(5),
+        5 => 1 + urn.below(16),
+        6 => urn.pick(&[most, most - 1, most / 2, 256, 255]),
+        _ => 1 + urn.below(most),
+    };
+    if negative {
+        doublewords.wrapping_neg() & 0x1FFF
+    } else {
+        doublewords
     }
 }
 
@@ -169,9 +199,25 @@ const TO: Field = listed(21, &[0, 31]);
 const TG: Field = any(0, 1);
 const FLUSH_HINT: Field = any(21, 2);
 const TOUCH_HINT: Field = any(21, 5);
+const ANY_TO: Field = any(21, 5);
 const E: Field = any(15, 1);
 const READ_SPR: Field = sprs(&SPRS);
 const WRITE_SPR: Field = sprs(writable());
+
+/// The first register of DA.
+const DA: Field = listed(16, &PAIRS);
+/// RT or RS, and RA, which is the same.
+const STACK: Field = Field { values: Values::Twice(nonzero()), shift: 16 };
+/// DD of lsku and of stsku.
+const POPPED: Field = Field { values: Values::Frame { negative: false }, shift: 3 };
+const PUSHED: Field = Field { values: Values::Frame { negative: true }, shift: 3 };
+/// SH of the doubleword rotates in its two parts, and MB or ME.
+const SH_LOW: Field = any(11, 5);
+const SH_HIGH: Field = any(1, 1);
+const LONG_MASK: Field = any(5, 6);
+/// What a tw with TG may hold where others have registers.
+const ANY_RA: Field = any(16, 5);
+const ANY_RB: Field = any(11, 5);
 
 const SUM: &[Field] = &[RT, RA, RB, OE, RC];
 const UNARY_SUM: &[Field] = &[RT, RA, OE, RC];
@@ -182,6 +228,7 @@ const UPDATING: &[Field] = &[RT, BASE, IMMEDIATE];
 const DISPLACED_PAIR: &[Field] = &[DT, RA, D_8];
 const UPDATING_PAIR: &[Field] = &[DT, BASE, D_8];
 const INDEXED: &[Field] = &[RT, RA, RB];
+const ROTATED_PAIR: &[Field] = &[DT, DA, SH_LOW, LONG_MASK, SH_HIGH, RC];
 
 const fn form(mnemonic: &'static str, fixed: u32, fields: &'static [Field]) -> Form {
     Form { mnemonic, fixed, fields, apart: 0 }
@@ -203,7 +250,24 @@ const fn extended(opcode: u32, extended: u32) -> u32 {
     opcode << 26 | extended << 1
 }
 
-/// The 87 instructions, in the order of the manual's 9.4.
+/// The 42X's: those of the 42, but for tw, and what it has besides.
+pub static FORMS_42X: LazyLock<Vec<&'static Form>> =
+    LazyLock::new(|| FORMS.iter().filter(|form| form.mnemonic != "tw").chain(&OF_42X).collect());
+
+/// The forms that the 42X alone has. Its tw is two: without TG it is the 42's, with it any word.
+const OF_42X: [Form; 9] = [
+    form("lsku", primary(58) | 3, &[STACK, POPPED]),
+    form("mulli", primary(7), DISPLACED),
+    form("mullw", extended(31, 235), SUM),
+    form("rldicl", primary(30), ROTATED_PAIR),
+    form("rldicr", primary(30) | 1 << 2, ROTATED_PAIR),
+    form("rldimi", primary(30) | 3 << 2, ROTATED_PAIR),
+    form("stsku", primary(62) | 3, &[STACK, PUSHED]),
+    form("tw", extended(31, 4), &[TO, RA, RB]),
+    form("tw", extended(31, 4) | 1, &[ANY_TO, ANY_RA, ANY_RB]),
+];
+
+/// The 42's 87 instructions, in the order of the manual's 9.4.
 pub const FORMS: [Form; 87] = [
     form("add", extended(31, 266), SUM),
     form("addc", extended(31, 10), SUM),

@@ -7,6 +7,6 @@ mod lines;
 pub mod srecords;
 mod urn;
 
-pub use forms::{Form, FORMS, REGISTERS, SPRS};
-pub use lines::{draw_line, SPELLINGS};
+pub use forms::{Form, FORMS, FORMS_42X, REGISTERS, SPRS};
+pub use lines::{draw_line, Spelling, SPELLINGS, SPELLINGS_42X};
 pub use urn::Urn;

@@ -5,7 +5,7 @@ use crate::forms::{REGISTERS, SPRS};
 use crate::urn::Urn;
 use std::sync::LazyLock;
 
-/// The spellings of 9.4 by their operands, of which each capital is one.
+/// The 42's spellings of 9.4 by their operands, of which each capital is one.
 const SHAPES: [(&str, &str); 27] = [
     ("", "rfi sync"),
     ("R", "mfcr mfmsr mtcr0 mtmsr wrtee"),
@@ -36,12 +36,28 @@ const SHAPES: [(&str, &str); 27] = [
     ("E", "wrteei"),
 ];
 
-/// Each mnemonic with its operands.
-pub static SPELLINGS: LazyLock<Vec<(&'static str, &'static str)>> = LazyLock::new(|| {
-    SHAPES.iter().flat_map(|(shape, mnemonics)| mnemonics.split(' ').map(move |mnemonic| (mnemonic, *shape))).collect()
-});
+/// Those that the 42X has besides; Q is the stack pointer, mostly the same in both places.
+const SHAPES_42X: [(&str, &str); 5] = [
+    ("R,R,R", "mullw mullw. mullwo mullwo."),
+    ("R,R,S", "mulli"),
+    ("R,R,L,L", "rldicl rldicl. rldicr rldicr. rldimi rldimi."),
+    ("Q,V(Q)", "lsku"),
+    ("Q,W(Q)", "stsku"),
+];
 
-/// Mnemonics that the core or 9.4's syntax lines lack.
+/// A mnemonic with its operands.
+pub type Spelling = (&'static str, &'static str);
+
+pub static SPELLINGS: LazyLock<Vec<Spelling>> = LazyLock::new(|| each_of(&SHAPES));
+
+/// The 42X's: those of the 42 and its own.
+pub static SPELLINGS_42X: LazyLock<Vec<Spelling>> = LazyLock::new(|| [each_of(&SHAPES), each_of(&SHAPES_42X)].concat());
+
+fn each_of(shapes: &[(&'static str, &'static str)]) -> Vec<Spelling> {
+    shapes.iter().flat_map(|(shape, mnemonics)| mnemonics.split(' ').map(move |mnemonic| (mnemonic, *shape))).collect()
+}
+
+/// Mnemonics that a core or 9.4's syntax lines lack.
 const LACKING: &str = "li lis la mr not nop sub subi blr bctr beq bdnz trap mark slwi clrlwi mtlr mflr mtctr mulli \
      mullw mullw. lvdx stvdx lsku stsku lcxu stcxu slvd srvd. rldicl cmpwbc cmplwbc cmpwibc bnbw clrbwbc dcbq twi isync \
      lha lmw addic.. mtcrf mfcrr mocr0 andi ori. rfi. bclrla ADD Lwz rFI";
@@ -70,26 +86,27 @@ enum Manner {
     Deep,
 }
 
-/// A line, good or not.
-pub fn draw_line(urn: &mut Urn) -> Vec<u8> {
+/// A line of the spellings, good or not.
+pub fn draw_line(urn: &mut Urn, spellings: &[Spelling]) -> Vec<u8> {
     let mut line = match urn.below(20) {
-        0..=4 => draw_written(urn, Manner::Plain),
-        5..=9 => draw_written(urn, Manner::Worked),
-        10..=11 => draw_written(urn, Manner::Edge),
-        12..=14 => draw_written(urn, Manner::Wild),
-        15 => draw_written(urn, Manner::Deep),
-        16 => draw_long(urn),
-        _ => draw_spoilt(urn),
+        0..=4 => draw_written(urn, spellings, Manner::Plain),
+        5..=9 => draw_written(urn, spellings, Manner::Worked),
+        10..=11 => draw_written(urn, spellings, Manner::Edge),
+        12..=14 => draw_written(urn, spellings, Manner::Wild),
+        15 => draw_written(urn, spellings, Manner::Deep),
+        16 => draw_long(urn, spellings),
+        _ => draw_spoilt(urn, spellings),
     };
     if urn.percent(20) {
-        spoil(urn, &mut line);
+        spoil(urn, spellings, &mut line);
     }
     line
 }
 
 /// A line of some spelling; of its operands one is written in this manner, and the others are mostly plain.
-fn draw_written(urn: &mut Urn, manner: Manner) -> Vec<u8> {
-    let (mnemonic, shape) = draw_spelling(urn, manner);
+fn draw_written(urn: &mut Urn, spellings: &[Spelling], manner: Manner) -> Vec<u8> {
+    let (mnemonic, shape) = draw_spelling(urn, spellings, manner);
+    let stack = if shape.contains('Q') { urn.pick(&REGISTERS[1..]) } else { 0 };
     let capitals: Vec<_> = (0..shape.len()).filter(|at| shape.as_bytes()[*at].is_ascii_uppercase()).collect();
     let numbers: Vec<_> = capitals.iter().copied().filter(|at| is_number(shape.as_bytes()[*at])).collect();
     let chosen = [numbers, capitals].into_iter().find(|places| !places.is_empty()).map(|places| urn.pick(&places));
@@ -107,15 +124,18 @@ fn draw_written(urn: &mut Urn, manner: Manner) -> Vec<u8> {
             3..=15 => Manner::Worked,
             _ => Manner::Plain,
         };
-        line.push_str(&operand(urn, letter, if chosen == Some(at) { manner } else { other }));
+        match letter {
+            'Q' if !urn.percent(5) => line.push_str(&format!("r{stack}")),
+            _ => line.push_str(&operand(urn, letter, if chosen == Some(at) { manner } else { other })),
+        }
     }
     line.into_bytes()
 }
 
 /// Any, but mostly one that has a number if that is to be written in another manner than plainly.
-fn draw_spelling(urn: &mut Urn, manner: Manner) -> (&'static str, &'static str) {
+fn draw_spelling(urn: &mut Urn, spellings: &[Spelling], manner: Manner) -> Spelling {
     loop {
-        let (mnemonic, shape) = urn.pick(&SPELLINGS);
+        let (mnemonic, shape) = urn.pick(spellings);
         if manner == Manner::Plain || shape.bytes().any(is_number) || urn.percent(10) {
             return (mnemonic, shape);
         }
@@ -124,14 +144,14 @@ fn draw_spelling(urn: &mut Urn, manner: Manner) -> (&'static str, &'static str) 
 
 /// Whether the letter is an operand that is no register.
 fn is_number(letter: u8) -> bool {
-    letter.is_ascii_uppercase() && !matches!(letter, b'R' | b'B')
+    letter.is_ascii_uppercase() && !matches!(letter, b'R' | b'B' | b'Q')
 }
 
 fn operand(urn: &mut Urn, letter: char, manner: Manner) -> String {
     match (letter, manner) {
         ('B', _) if urn.percent(50) => "0".into(),
-        ('R' | 'B', Manner::Edge | Manner::Wild) => format!("r{}", unlikely_register(urn)),
-        ('R' | 'B', _) => format!("r{}{}", zeros(urn), urn.pick(&REGISTERS)),
+        ('R' | 'B' | 'Q', Manner::Edge | Manner::Wild) => format!("r{}", unlikely_register(urn)),
+        ('R' | 'B' | 'Q', _) => format!("r{}{}", zeros(urn), urn.pick(&REGISTERS)),
         (_, Manner::Plain) => {
             let value = good(urn, letter);
             number(urn, value)
@@ -182,7 +202,10 @@ fn range(letter: char) -> (i64, i64) {
         'K' => (-0x8000, 0x7FFC),
         'C' => (0, 3),
         'E' => (0, 1),
+        'L' => (0, 63),
         'N' => (1, 340),
+        'V' => (8, 0x7FFF),
+        'W' => (-0x8000, -1),
         _ => (0, 31),
     }
 }
@@ -192,6 +215,7 @@ fn good(urn: &mut Urn, letter: char) -> i64 {
     let value = match urn.below(4) {
         0 => least + urn.below(16) as i64,
         1 => most - urn.below(16) as i64,
+        2 if letter == 'W' => -1 - urn.below(64) as i64,
         2 => urn.below(256) as i64 - 64,
         _ => least + urn.below((most - least + 1) as u32) as i64,
     };
@@ -344,9 +368,9 @@ fn wild_factor(urn: &mut Urn, size: u32) -> String {
 }
 
 /// A line lengthened to about the most bytes, or to many more, before one of its digits.
-fn draw_long(urn: &mut Urn) -> Vec<u8> {
+fn draw_long(urn: &mut Urn, spellings: &[Spelling]) -> Vec<u8> {
     let manner = urn.pick(&[Manner::Plain, Manner::Plain, Manner::Worked, Manner::Wild, Manner::Deep]);
-    let mut line = draw_written(urn, manner);
+    let mut line = draw_written(urn, spellings, manner);
     let length = if urn.percent(10) { 1000 } else { 254 + urn.below(7) as usize };
     let digits: Vec<_> = (0..line.len()).filter(|at| line[*at].is_ascii_digit()).collect();
     let at = if digits.is_empty() { line.len() } else { urn.pick(&digits) };
@@ -360,21 +384,21 @@ fn draw_long(urn: &mut Urn) -> Vec<u8> {
 }
 
 /// A line with something wrong in it, or two or three things.
-fn draw_spoilt(urn: &mut Urn) -> Vec<u8> {
+fn draw_spoilt(urn: &mut Urn, spellings: &[Spelling]) -> Vec<u8> {
     if urn.percent(3) {
         let mut bytes = vec![0; urn.below(20) as usize];
         urn.fill(&mut bytes);
         return bytes;
     }
     let manner = urn.pick(&[Manner::Plain, Manner::Plain, Manner::Worked, Manner::Wild]);
-    let mut line = draw_written(urn, manner);
+    let mut line = draw_written(urn, spellings, manner);
     for _ in 0..=urn.below(6) / 4 {
-        spoil(urn, &mut line);
+        spoil(urn, spellings, &mut line);
     }
     line
 }
 
-fn spoil(urn: &mut Urn, line: &mut Vec<u8>) {
+fn spoil(urn: &mut Urn, spellings: &[Spelling], line: &mut Vec<u8>) {
     let at = urn.below(line.len() as u32 + 1) as usize;
     let byte = if urn.percent(80) { urn.pick(LIKELY) } else { urn.word() as u8 };
     match urn.below(16) {
@@ -385,17 +409,17 @@ fn spoil(urn: &mut Urn, line: &mut Vec<u8>) {
         12..=13 => line.truncate(at),
         14 => {
             let between = urn.pick(&[&b""[..], b" ", b"\n", b",", b"+"]);
-            line.extend([between, &draw_written(urn, Manner::Plain)].concat());
+            line.extend([between, &draw_written(urn, spellings, Manner::Plain)].concat());
         }
-        _ => rename(urn, line),
+        _ => rename(urn, spellings, line),
     }
 }
 
 /// Gives the line a mnemonic that there is not, or that of other operands.
-fn rename(urn: &mut Urn, line: &mut Vec<u8>) {
+fn rename(urn: &mut Urn, spellings: &[Spelling], line: &mut Vec<u8>) {
     let lacking: Vec<_> = LACKING.split(' ').collect();
     let mnemonic = match urn.below(3) {
-        0 => urn.pick(&SPELLINGS).0.to_string(),
+        0 => urn.pick(spellings).0.to_string(),
         1 => urn.pick(&lacking).to_string(),
         _ => (0..1 + urn.below(6)).map(|_| urn.pick(b"abcdeilmorstuwxz.") as char).collect(),
     };

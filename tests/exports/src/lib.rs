@@ -2,126 +2,165 @@
 //!
 //! Each function asks what its C declaration asks: a pointer is good for its length, and no two overlap.
 
+use second::Profile;
 use std::slice;
 
-#[no_mangle]
-pub extern "C" fn ppe42_legal(word: u32) -> u32 {
-    second::legal(word) as u32
+/// The functions of one core, by the names that they have in C.
+macro_rules! functions {
+    ($profile:expr;
+        $legal:ident $rewrite:ident $run:ident $run_reach:ident $run_inside:ident $step:ident $tell:ident $access:ident
+        $capture_check:ident $capture_write:ident $assemble:ident $disassemble:ident
+    ) => {
+        #[no_mangle]
+        pub extern "C" fn $legal(word: u32) -> u32 {
+            second::legal($profile, word) as u32
+        }
+
+        /// This core reads words in place and has no writer: the answer is the word itself, as demand 2 says.
+        #[no_mangle]
+        pub extern "C" fn $rewrite(word: u32) -> u64 {
+            if second::legal($profile, word) {
+                1 << 32 | word as u64
+            } else {
+                0
+            }
+        }
+
+        /// # Safety
+        /// See the top.
+        #[no_mangle]
+        pub unsafe extern "C" fn $run(
+            state: *mut u8,
+            state_len: usize,
+            memory: *mut u8,
+            memory_len: usize,
+            events: *const u8,
+            events_len: usize,
+            budget: u32,
+        ) -> u64 {
+            let (state, memory) = (lent_mut(state, state_len), lent_mut(memory, memory_len));
+            second::run($profile, state, memory, lent(events, events_len), budget)
+        }
+
+        /// # Safety
+        /// See the top.
+        #[no_mangle]
+        pub unsafe extern "C" fn $run_reach(
+            state: *mut u8,
+            state_len: usize,
+            memory: *mut u8,
+            memory_len: usize,
+            events: *const u8,
+            events_len: usize,
+            budget: u32,
+        ) -> u64 {
+            let (state, memory) = (lent_mut(state, state_len), lent_mut(memory, memory_len));
+            second::run_reach($profile, state, memory, lent(events, events_len), budget)
+        }
+
+        /// # Safety
+        /// See the top.
+        #[no_mangle]
+        pub unsafe extern "C" fn $run_inside(
+            state: *mut u8,
+            state_len: usize,
+            memory: *mut u8,
+            memory_len: usize,
+            events: *const u8,
+            events_len: usize,
+            budget: u32,
+        ) -> u64 {
+            let (state, memory) = (lent_mut(state, state_len), lent_mut(memory, memory_len));
+            second::run_inside($profile, state, memory, lent(events, events_len), budget)
+        }
+
+        /// # Safety
+        /// See the top.
+        #[no_mangle]
+        pub unsafe extern "C" fn $step(
+            state: *mut u8,
+            state_len: usize,
+            memory: *mut u8,
+            memory_len: usize,
+            event: u8,
+        ) -> u64 {
+            second::step($profile, lent_mut(state, state_len), lent_mut(memory, memory_len), event)
+        }
+
+        /// # Safety
+        /// See the top.
+        #[no_mangle]
+        pub unsafe extern "C" fn $tell(
+            state: *const u8,
+            state_len: usize,
+            memory: *const u8,
+            memory_len: usize,
+            event: u8,
+        ) -> u64 {
+            second::tell($profile, lent(state, state_len), lent(memory, memory_len), event)
+        }
+
+        /// # Safety
+        /// See the top.
+        #[no_mangle]
+        pub unsafe extern "C" fn $access(
+            state: *const u8,
+            state_len: usize,
+            memory: *const u8,
+            memory_len: usize,
+            event: u8,
+        ) -> u64 {
+            second::access($profile, lent(state, state_len), lent(memory, memory_len), event)
+        }
+
+        /// # Safety
+        /// See the top.
+        #[no_mangle]
+        pub unsafe extern "C" fn $capture_check(file: *const u8, len: usize) -> u64 {
+            second::capture_check($profile, lent(file, len))
+        }
+
+        /// # Safety
+        /// See the top.
+        #[no_mangle]
+        pub unsafe extern "C" fn $capture_write(
+            state: *const u8,
+            state_len: usize,
+            memory: *const u8,
+            memory_len: usize,
+            out: *mut u8,
+            out_len: usize,
+        ) -> u64 {
+            let (state, memory) = (lent(state, state_len), lent(memory, memory_len));
+            second::capture_write($profile, state, memory, lent_mut(out, out_len))
+        }
+
+        /// # Safety
+        /// See the top.
+        #[no_mangle]
+        pub unsafe extern "C" fn $assemble(line: *const u8, len: usize) -> u64 {
+            second::assemble($profile, lent(line, len))
+        }
+
+        /// # Safety
+        /// See the top.
+        #[no_mangle]
+        pub unsafe extern "C" fn $disassemble(word: u32, out: *mut u8, out_len: usize) -> u64 {
+            second::disassemble($profile, word, lent_mut(out, out_len))
+        }
+    };
 }
 
-/// This core reads words in place and has no writer: the answer is the word itself, as demand 2 says.
-#[no_mangle]
-pub extern "C" fn ppe42_rewrite(word: u32) -> u64 {
-    if second::legal(word) {
-        1 << 32 | word as u64
-    } else {
-        0
-    }
+functions! {
+    Profile::Ppe42;
+    ppe42_legal ppe42_rewrite ppe42_run ppe42_run_reach ppe42_run_inside ppe42_step ppe42_tell ppe42_access
+    ppe42_capture_check ppe42_capture_write ppe42_assemble ppe42_disassemble
 }
 
-/// # Safety
-/// See the top.
-#[no_mangle]
-pub unsafe extern "C" fn ppe42_run(
-    state: *mut u8,
-    state_len: usize,
-    memory: *mut u8,
-    memory_len: usize,
-    events: *const u8,
-    events_len: usize,
-    budget: u32,
-) -> u64 {
-    second::run(lent_mut(state, state_len), lent_mut(memory, memory_len), lent(events, events_len), budget)
-}
-
-/// # Safety
-/// See the top.
-#[no_mangle]
-pub unsafe extern "C" fn ppe42_run_reach(
-    state: *mut u8,
-    state_len: usize,
-    memory: *mut u8,
-    memory_len: usize,
-    events: *const u8,
-    events_len: usize,
-    budget: u32,
-) -> u64 {
-    second::run_reach(lent_mut(state, state_len), lent_mut(memory, memory_len), lent(events, events_len), budget)
-}
-
-/// # Safety
-/// See the top.
-#[no_mangle]
-pub unsafe extern "C" fn ppe42_run_inside(
-    state: *mut u8,
-    state_len: usize,
-    memory: *mut u8,
-    memory_len: usize,
-    events: *const u8,
-    events_len: usize,
-    budget: u32,
-) -> u64 {
-    second::run_inside(lent_mut(state, state_len), lent_mut(memory, memory_len), lent(events, events_len), budget)
-}
-
-/// # Safety
-/// See the top.
-#[no_mangle]
-pub unsafe extern "C" fn ppe42_step(
-    state: *mut u8,
-    state_len: usize,
-    memory: *mut u8,
-    memory_len: usize,
-    event: u8,
-) -> u64 {
-    second::step(lent_mut(state, state_len), lent_mut(memory, memory_len), event)
-}
-
-/// # Safety
-/// See the top.
-#[no_mangle]
-pub unsafe extern "C" fn ppe42_tell(
-    state: *const u8,
-    state_len: usize,
-    memory: *const u8,
-    memory_len: usize,
-    event: u8,
-) -> u64 {
-    second::tell(lent(state, state_len), lent(memory, memory_len), event)
-}
-
-/// # Safety
-/// See the top.
-#[no_mangle]
-pub unsafe extern "C" fn ppe42_access(
-    state: *const u8,
-    state_len: usize,
-    memory: *const u8,
-    memory_len: usize,
-    event: u8,
-) -> u64 {
-    second::access(lent(state, state_len), lent(memory, memory_len), event)
-}
-
-/// # Safety
-/// See the top.
-#[no_mangle]
-pub unsafe extern "C" fn ppe42_capture_check(file: *const u8, len: usize) -> u64 {
-    second::capture_check(lent(file, len))
-}
-
-/// # Safety
-/// See the top.
-#[no_mangle]
-pub unsafe extern "C" fn ppe42_capture_write(
-    state: *const u8,
-    state_len: usize,
-    memory: *const u8,
-    memory_len: usize,
-    out: *mut u8,
-    out_len: usize,
-) -> u64 {
-    second::capture_write(lent(state, state_len), lent(memory, memory_len), lent_mut(out, out_len))
+functions! {
+    Profile::Ppe42x;
+    ppe42x_legal ppe42x_rewrite ppe42x_run ppe42x_run_reach ppe42x_run_inside ppe42x_step ppe42x_tell ppe42x_access
+    ppe42x_capture_check ppe42x_capture_write ppe42x_assemble ppe42x_disassemble
 }
 
 /// # Safety
@@ -136,20 +175,6 @@ pub unsafe extern "C" fn ppe42_srec_read(memory: *mut u8, memory_len: usize, fil
 #[no_mangle]
 pub unsafe extern "C" fn ppe42_srec_write(memory: *const u8, memory_len: usize, out: *mut u8, out_len: usize) -> u64 {
     second::srec_write(lent(memory, memory_len), lent_mut(out, out_len))
-}
-
-/// # Safety
-/// See the top.
-#[no_mangle]
-pub unsafe extern "C" fn ppe42_assemble(line: *const u8, len: usize) -> u64 {
-    second::assemble(lent(line, len))
-}
-
-/// # Safety
-/// See the top.
-#[no_mangle]
-pub unsafe extern "C" fn ppe42_disassemble(word: u32, out: *mut u8, out_len: usize) -> u64 {
-    second::disassemble(word, lent_mut(out, out_len))
 }
 
 /// An empty buffer may come with any pointer, a null one too.

@@ -3,54 +3,6 @@
 #[cfg(not(archive))]
 extern crate exports as _;
 
-extern "C" {
-    fn ppe42_legal(word: u32) -> u32;
-    fn ppe42_rewrite(word: u32) -> u64;
-    fn ppe42_run(
-        state: *mut u8,
-        state_len: usize,
-        memory: *mut u8,
-        memory_len: usize,
-        events: *const u8,
-        events_len: usize,
-        budget: u32,
-    ) -> u64;
-    fn ppe42_run_reach(
-        state: *mut u8,
-        state_len: usize,
-        memory: *mut u8,
-        memory_len: usize,
-        events: *const u8,
-        events_len: usize,
-        budget: u32,
-    ) -> u64;
-    fn ppe42_run_inside(
-        state: *mut u8,
-        state_len: usize,
-        memory: *mut u8,
-        memory_len: usize,
-        events: *const u8,
-        events_len: usize,
-        budget: u32,
-    ) -> u64;
-    fn ppe42_step(state: *mut u8, state_len: usize, memory: *mut u8, memory_len: usize, event: u8) -> u64;
-    fn ppe42_tell(state: *const u8, state_len: usize, memory: *const u8, memory_len: usize, event: u8) -> u64;
-    fn ppe42_access(state: *const u8, state_len: usize, memory: *const u8, memory_len: usize, event: u8) -> u64;
-    fn ppe42_capture_check(file: *const u8, len: usize) -> u64;
-    fn ppe42_capture_write(
-        state: *const u8,
-        state_len: usize,
-        memory: *const u8,
-        memory_len: usize,
-        out: *mut u8,
-        out_len: usize,
-    ) -> u64;
-    fn ppe42_assemble(line: *const u8, len: usize) -> u64;
-    fn ppe42_disassemble(word: u32, out: *mut u8, out_len: usize) -> u64;
-    fn ppe42_srec_read(memory: *mut u8, memory_len: usize, file: *const u8, len: usize) -> u64;
-    fn ppe42_srec_write(memory: *const u8, memory_len: usize, out: *mut u8, out_len: usize) -> u64;
-}
-
 /// A function that plays a run: given state, memory, event list and budget.
 pub type Play = fn(&mut [u8], &mut [u8], &[u8], u32) -> u64;
 
@@ -92,103 +44,156 @@ pub struct Library {
     pub srec_write: fn(&[u8], &mut [u8]) -> u64,
 }
 
-pub const LINKED: Library = Library {
-    legal,
-    rewrite,
-    run,
-    run_reach,
-    run_inside,
-    step,
-    tell,
-    access,
-    capture_check,
-    capture_write,
-    assemble,
-    disassemble,
-    srec_read,
-    srec_write,
-};
+/// The linked library's functions of one core, by their C names; those of S-records are the same for both.
+// SAFETY, for each call here and below: the library touches nothing but the buffers that it is lent, within their
+// lengths.
+macro_rules! linked {
+    ($(#[$doc:meta])* $linked:ident, $module:ident;
+        $legal:ident $rewrite:ident $run:ident $run_reach:ident $run_inside:ident $step:ident $tell:ident $access:ident
+        $capture_check:ident $capture_write:ident $assemble:ident $disassemble:ident
+    ) => {
+        $(#[$doc])*
+        pub const $linked: Library = $module::LIBRARY;
 
-// SAFETY, for each call: the library touches nothing but the buffers that it is lent, within their lengths.
+        mod $module {
+            use super::Library;
 
-fn legal(word: u32) -> u32 {
-    unsafe { ppe42_legal(word) }
+            extern "C" {
+                fn $legal(word: u32) -> u32;
+                fn $rewrite(word: u32) -> u64;
+                fn $run(
+                    state: *mut u8,
+                    state_len: usize,
+                    memory: *mut u8,
+                    memory_len: usize,
+                    events: *const u8,
+                    events_len: usize,
+                    budget: u32,
+                ) -> u64;
+                fn $run_reach(
+                    state: *mut u8,
+                    state_len: usize,
+                    memory: *mut u8,
+                    memory_len: usize,
+                    events: *const u8,
+                    events_len: usize,
+                    budget: u32,
+                ) -> u64;
+                fn $run_inside(
+                    state: *mut u8,
+                    state_len: usize,
+                    memory: *mut u8,
+                    memory_len: usize,
+                    events: *const u8,
+                    events_len: usize,
+                    budget: u32,
+                ) -> u64;
+                fn $step(state: *mut u8, state_len: usize, memory: *mut u8, memory_len: usize, event: u8) -> u64;
+                fn $tell(state: *const u8, state_len: usize, memory: *const u8, memory_len: usize, event: u8) -> u64;
+                fn $access(state: *const u8, state_len: usize, memory: *const u8, memory_len: usize, event: u8) -> u64;
+                fn $capture_check(file: *const u8, len: usize) -> u64;
+                fn $capture_write(
+                    state: *const u8,
+                    state_len: usize,
+                    memory: *const u8,
+                    memory_len: usize,
+                    out: *mut u8,
+                    out_len: usize,
+                ) -> u64;
+                fn $assemble(line: *const u8, len: usize) -> u64;
+                fn $disassemble(word: u32, out: *mut u8, out_len: usize) -> u64;
+            }
+
+            pub const LIBRARY: Library = Library {
+                legal,
+                rewrite,
+                run,
+                run_reach,
+                run_inside,
+                step,
+                tell,
+                access,
+                capture_check,
+                capture_write,
+                assemble,
+                disassemble,
+                srec_read: super::srec_read,
+                srec_write: super::srec_write,
+            };
+
+            fn legal(word: u32) -> u32 {
+                unsafe { $legal(word) }
+            }
+
+            fn rewrite(word: u32) -> u64 {
+                unsafe { $rewrite(word) }
+            }
+
+            fn run(state: &mut [u8], memory: &mut [u8], events: &[u8], budget: u32) -> u64 {
+                let (states, bytes, listed) = (state.len(), memory.len(), events.len());
+                unsafe { $run(state.as_mut_ptr(), states, memory.as_mut_ptr(), bytes, events.as_ptr(), listed, budget) }
+            }
+
+            fn run_reach(state: &mut [u8], memory: &mut [u8], events: &[u8], budget: u32) -> u64 {
+                let (states, bytes, listed) = (state.len(), memory.len(), events.len());
+                let (state, memory) = (state.as_mut_ptr(), memory.as_mut_ptr());
+                unsafe { $run_reach(state, states, memory, bytes, events.as_ptr(), listed, budget) }
+            }
+
+            fn run_inside(state: &mut [u8], memory: &mut [u8], events: &[u8], budget: u32) -> u64 {
+                let (states, bytes, listed) = (state.len(), memory.len(), events.len());
+                let (state, memory) = (state.as_mut_ptr(), memory.as_mut_ptr());
+                unsafe { $run_inside(state, states, memory, bytes, events.as_ptr(), listed, budget) }
+            }
+
+            fn step(state: &mut [u8], memory: &mut [u8], event: u8) -> u64 {
+                unsafe { $step(state.as_mut_ptr(), state.len(), memory.as_mut_ptr(), memory.len(), event) }
+            }
+
+            fn tell(state: &mut [u8], memory: &mut [u8], event: u8) -> u64 {
+                unsafe { $tell(state.as_mut_ptr(), state.len(), memory.as_mut_ptr(), memory.len(), event) }
+            }
+
+            fn access(state: &mut [u8], memory: &mut [u8], event: u8) -> u64 {
+                unsafe { $access(state.as_mut_ptr(), state.len(), memory.as_mut_ptr(), memory.len(), event) }
+            }
+
+            fn capture_check(file: &[u8]) -> u64 {
+                unsafe { $capture_check(file.as_ptr(), file.len()) }
+            }
+
+            fn capture_write(state: &[u8], memory: &[u8], out: &mut [u8]) -> u64 {
+                let (states, bytes, room) = (state.len(), memory.len(), out.len());
+                unsafe { $capture_write(state.as_ptr(), states, memory.as_ptr(), bytes, out.as_mut_ptr(), room) }
+            }
+
+            fn assemble(line: &[u8]) -> u64 {
+                unsafe { $assemble(line.as_ptr(), line.len()) }
+            }
+
+            fn disassemble(word: u32, out: &mut [u8]) -> u64 {
+                unsafe { $disassemble(word, out.as_mut_ptr(), out.len()) }
+            }
+        }
+    };
 }
 
-fn rewrite(word: u32) -> u64 {
-    unsafe { ppe42_rewrite(word) }
+linked! {
+    LINKED, of_42;
+    ppe42_legal ppe42_rewrite ppe42_run ppe42_run_reach ppe42_run_inside ppe42_step ppe42_tell ppe42_access
+    ppe42_capture_check ppe42_capture_write ppe42_assemble ppe42_disassemble
 }
 
-fn run(state: &mut [u8], memory: &mut [u8], events: &[u8], budget: u32) -> u64 {
-    unsafe {
-        ppe42_run(
-            state.as_mut_ptr(),
-            state.len(),
-            memory.as_mut_ptr(),
-            memory.len(),
-            events.as_ptr(),
-            events.len(),
-            budget,
-        )
-    }
+linked! {
+    /// The same of a 42X.
+    LINKED_42X, of_42x;
+    ppe42x_legal ppe42x_rewrite ppe42x_run ppe42x_run_reach ppe42x_run_inside ppe42x_step ppe42x_tell ppe42x_access
+    ppe42x_capture_check ppe42x_capture_write ppe42x_assemble ppe42x_disassemble
 }
 
-fn run_reach(state: &mut [u8], memory: &mut [u8], events: &[u8], budget: u32) -> u64 {
-    unsafe {
-        ppe42_run_reach(
-            state.as_mut_ptr(),
-            state.len(),
-            memory.as_mut_ptr(),
-            memory.len(),
-            events.as_ptr(),
-            events.len(),
-            budget,
-        )
-    }
-}
-
-fn run_inside(state: &mut [u8], memory: &mut [u8], events: &[u8], budget: u32) -> u64 {
-    unsafe {
-        ppe42_run_inside(
-            state.as_mut_ptr(),
-            state.len(),
-            memory.as_mut_ptr(),
-            memory.len(),
-            events.as_ptr(),
-            events.len(),
-            budget,
-        )
-    }
-}
-
-fn step(state: &mut [u8], memory: &mut [u8], event: u8) -> u64 {
-    unsafe { ppe42_step(state.as_mut_ptr(), state.len(), memory.as_mut_ptr(), memory.len(), event) }
-}
-
-fn tell(state: &mut [u8], memory: &mut [u8], event: u8) -> u64 {
-    unsafe { ppe42_tell(state.as_mut_ptr(), state.len(), memory.as_mut_ptr(), memory.len(), event) }
-}
-
-fn access(state: &mut [u8], memory: &mut [u8], event: u8) -> u64 {
-    unsafe { ppe42_access(state.as_mut_ptr(), state.len(), memory.as_mut_ptr(), memory.len(), event) }
-}
-
-fn capture_check(file: &[u8]) -> u64 {
-    unsafe { ppe42_capture_check(file.as_ptr(), file.len()) }
-}
-
-fn capture_write(state: &[u8], memory: &[u8], out: &mut [u8]) -> u64 {
-    unsafe {
-        ppe42_capture_write(state.as_ptr(), state.len(), memory.as_ptr(), memory.len(), out.as_mut_ptr(), out.len())
-    }
-}
-
-fn assemble(line: &[u8]) -> u64 {
-    unsafe { ppe42_assemble(line.as_ptr(), line.len()) }
-}
-
-fn disassemble(word: u32, out: &mut [u8]) -> u64 {
-    unsafe { ppe42_disassemble(word, out.as_mut_ptr(), out.len()) }
+extern "C" {
+    fn ppe42_srec_read(memory: *mut u8, memory_len: usize, file: *const u8, len: usize) -> u64;
+    fn ppe42_srec_write(memory: *const u8, memory_len: usize, out: *mut u8, out_len: usize) -> u64;
 }
 
 fn srec_read(memory: &mut [u8], file: &[u8]) -> u64 {

@@ -28,6 +28,17 @@ pub fn mask(first: u32, last: u32) -> u32 {
     }
 }
 
+/// The same of 64 bits.
+pub fn long_mask(first: u32, last: u32) -> u64 {
+    let from_first = u64::MAX >> first;
+    let to_last = u64::MAX << (63 - last);
+    if first <= last {
+        from_first & to_last
+    } else {
+        from_first | to_last
+    }
+}
+
 /// Six bits of the amount count.
 pub fn shift_left(value: u32, amount: u32) -> u32 {
     value.checked_shl(amount & 63).unwrap_or(0)
@@ -52,6 +63,12 @@ pub fn multiply_signed(a: u32, b: u32) -> u32 {
 
 pub fn multiply_unsigned(a: u32, b: u32) -> u32 {
     a as u16 as u32 * b as u16 as u32
+}
+
+/// The low-order word of a signed product, which overflows where that is not the product.
+pub fn product(a: u32, b: u32) -> (u32, bool) {
+    let whole = a as i32 as i64 * b as i32 as i64;
+    (whole as u32, whole != whole as i32 as i64)
 }
 
 /// The bit of CR0 that tells how two values compare.

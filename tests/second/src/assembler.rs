@@ -1,7 +1,8 @@
 //! The word of a line (request C-12). The grammar is a set of rules, and a line is read by keeping, byte for byte, all
 //! that may still follow: where nothing may, no line goes on.
 
-use crate::disassembler::{Operand, Part, Spelling, SPELLINGS};
+use crate::disassembler::{spellings, Operand, Part, Spelling};
+use crate::profile::Profile;
 use std::sync::LazyLock;
 
 /// The line is not in the grammar.
@@ -18,26 +19,26 @@ const LONGEST: usize = 256;
 const DEEPEST: u32 = 16;
 
 /// Refusal, column and word; refusal and column are 0 where there is a word.
-pub fn assemble(line: &[u8]) -> (u32, u32, u32) {
-    match read(line) {
+pub fn assemble(profile: Profile, line: &[u8]) -> (u32, u32, u32) {
+    match read(profile, line) {
         Ok(word) => (0, 0, word),
         Err((refusal, column)) => (refusal, column as u32, 0),
     }
 }
 
-fn read(line: &[u8]) -> Result<u32, (u32, usize)> {
-    let (column, rests) = follow(line);
+fn read(profile: Profile, line: &[u8]) -> Result<u32, (u32, usize)> {
+    let (column, rests) = follow(profile, line);
     if column < line.len() || !rests.iter().any(is_empty) {
         return Err((NO_LINE, column));
     }
-    let spelling = spelling_of(line).ok_or((NO_LINE, column))?;
+    let spelling = spelling_of(profile, line).ok_or((NO_LINE, column))?;
     let values = values(line, spelling).map_err(|column| (TOO_LARGE, column))?;
-    spelling.word(&values).ok_or((NO_INSTRUCTION, 0))
+    spelling.word(profile, &values).ok_or((NO_INSTRUCTION, 0))
 }
 
-fn spelling_of(line: &[u8]) -> Option<&'static Spelling> {
+fn spelling_of(profile: Profile, line: &[u8]) -> Option<&'static Spelling> {
     let mnemonic = line.split(|byte| *byte == b' ').next()?;
-    SPELLINGS.iter().find(|spelling| spelling.mnemonic.as_bytes() == mnemonic)
+    spellings(profile).iter().find(|spelling| spelling.mnemonic.as_bytes() == mnemonic)
 }
 
 /// What a line is made of. The numbers count the brackets and minuses that are open around it.
@@ -104,8 +105,9 @@ impl Symbol {
     }
 }
 
-/// All lines of the grammar, one rule for each spelling.
-static LINES: LazyLock<Vec<Rest>> = LazyLock::new(|| SPELLINGS.iter().map(whole).collect());
+/// All lines of the grammar of each core, one rule for each spelling.
+static LINES: LazyLock<[Vec<Rest>; 2]> =
+    LazyLock::new(|| Profile::BOTH.map(|profile| spellings(profile).iter().map(whole).collect()));
 
 fn whole(spelling: &Spelling) -> Rest {
     let space = if spelling.parts.is_empty() { "" } else { " " };
@@ -144,8 +146,8 @@ fn reversed(rule: &[Symbol]) -> Rest {
 
 /// The length of the longest start of the line with which some line of the grammar starts, not looked for beyond the
 /// most bytes, and all that may follow it.
-fn follow(line: &[u8]) -> (usize, Vec<Rest>) {
-    let mut rests = LINES.clone();
+fn follow(profile: Profile, line: &[u8]) -> (usize, Vec<Rest>) {
+    let mut rests = LINES[profile as usize].clone();
     for (column, byte) in line.iter().take(LONGEST).enumerate() {
         let following = after(rests, *byte);
         if following.is_empty() {
@@ -264,11 +266,11 @@ mod tests {
     /// One line of each spelling, with a number in which rules meet.
     #[test]
     fn a_line_is_read_in_one_way() {
-        for spelling in SPELLINGS.iter() {
+        for spelling in spellings(Profile::Ppe42x) {
             let space = if spelling.parts.is_empty() { "" } else { " " };
             let operands: String = spelling.parts.iter().map(sample).collect();
             let line = format!("{}{space}{operands}", spelling.mnemonic);
-            let (column, rests) = follow(line.as_bytes());
+            let (column, rests) = follow(Profile::Ppe42x, line.as_bytes());
             assert_eq!((column, rests.iter().filter(|rest| is_empty(rest)).count()), (line.len(), 1), "{line}");
         }
     }

@@ -1,5 +1,6 @@
 //! State records as bytes, and captures (the scope, "The capture a site sends").
 
+use crate::profile::Profile;
 use crate::refusals::{check_core, BAD_CAPTURE, SHORT_OUTPUT};
 use crate::registers::WORDS;
 
@@ -27,7 +28,7 @@ fn word_at(bytes: &[u8], at: usize) -> u32 {
 }
 
 /// The length of its memory.
-pub fn check(file: &[u8]) -> Result<u32, u32> {
+pub fn check(profile: Profile, file: &[u8]) -> Result<u32, u32> {
     let length = file.len();
     if length < SHORTEST {
         return Err(BAD_CAPTURE);
@@ -38,13 +39,13 @@ pub fn check(file: &[u8]) -> Result<u32, u32> {
         return Err(BAD_CAPTURE);
     }
     let words = read_words(&file[memory_length..memory_length + STATE])?;
-    check_core(&words, memory_length)?;
+    check_core(profile, &words, memory_length)?;
     Ok(memory_length as u32)
 }
 
 /// Bytes written.
-pub fn write(state: &[u8], memory: &[u8], out: &mut [u8]) -> Result<u32, u32> {
-    check_core(&read_words(state)?, memory.len())?;
+pub fn write(profile: Profile, state: &[u8], memory: &[u8], out: &mut [u8]) -> Result<u32, u32> {
+    check_core(profile, &read_words(state)?, memory.len())?;
     let length = memory.len() + TAIL;
     if out.len() < length {
         return Err(SHORT_OUTPUT);

@@ -1,5 +1,6 @@
 //! How 9.4 writes each instruction: its spellings and operands with their places in the word, and the line of a word.
 
+use crate::profile::Profile;
 use crate::word::{Kind, Word};
 use std::sync::LazyLock;
 
@@ -25,6 +26,13 @@ pub enum Operand {
     },
     /// Its halves stand in the word in reverse order.
     Spr,
+    /// Six bits without a sign, of which the highest stands apart from the others.
+    Split {
+        low: u32,
+        high: u32,
+    },
+    /// Bytes of which the last three bits are dropped: their places hold other things.
+    Frame,
 }
 
 const RA: u32 = 16;
@@ -34,7 +42,7 @@ impl Operand {
     fn named(name: &str) -> Operand {
         match name {
             "RT" | "RS" | "DT" | "DS" => Operand::Register { shift: 21 },
-            "RA" => Operand::Register { shift: RA },
+            "RA" | "DA" => Operand::Register { shift: RA },
             "RB" => Operand::Register { shift: 11 },
             "RA|0" => Operand::Base,
             "SI" | "D" => Operand::Signed { width: 16 },
@@ -48,6 +56,9 @@ impl Operand {
             "LI" => Operand::Target { width: 26 },
             "BD" => Operand::Target { width: 16 },
             "SPRN" => Operand::Spr,
+            "SH64" => Operand::Split { low: 11, high: 1 },
+            "MB64" | "ME64" => Operand::Split { low: 6, high: 5 },
+            "DD" => Operand::Frame,
             _ => panic!("no operand is called {name}"),
         }
     }
@@ -61,6 +72,8 @@ impl Operand {
             Operand::Signed { width } => signed(value, width),
             Operand::Target { width } => signed(value, width).filter(|bits| bits % 4 == 0),
             Operand::Spr => unsigned(value, 10).map(|bits| (bits & 31) << 16 | bits >> 5 << 11),
+            Operand::Split { low, high } => unsigned(value, 6).map(|bits| (bits & 31) << low | bits >> 5 << high),
+            Operand::Frame => signed(value, 16).map(|bits| bits & !7),
         }
     }
 
@@ -75,6 +88,8 @@ impl Operand {
             Operand::Signed { width } => extended(width),
             Operand::Target { width } => extended(width) & !3,
             Operand::Spr => field(11, 5) << 5 | field(16, 5),
+            Operand::Split { low, high } => field(high, 1) << 5 | field(low, 5),
+            Operand::Frame => extended(16) & !7,
         }
     }
 
@@ -123,12 +138,12 @@ impl Spelling {
     }
 
     /// The word of these operands, in the order of the syntax line, or nothing if there is no such instruction.
-    pub fn word(&self, values: &[i64]) -> Option<u32> {
+    pub fn word(&self, profile: Profile, values: &[i64]) -> Option<u32> {
         let mut word = self.fixed;
         for (operand, value) in self.operands().zip(values) {
             word |= operand.put(*value)?;
         }
-        (Word(word).kind() == Some(self.kind)).then_some(word)
+        (Word(word).kind(profile) == Some(self.kind)).then_some(word)
     }
 
     fn line(&self, word: u32) -> String {
@@ -150,17 +165,18 @@ impl Spelling {
 #[derive(Debug, PartialEq, Eq)]
 pub struct Line {
     pub text: String,
-    /// Whether a field that 9.4 does not write is not 0; the line is then that of the word with it 0.
+    /// Whether a field that 9.4 does not write is not 0; the line is then that of the word with it 0, which on a 42X may be
+    /// illegal where the field is TG.
     pub unwritten: bool,
 }
 
 /// Nothing for an illegal word.
-pub fn disassemble(word: u32) -> Option<Line> {
-    let kind = Word(word).kind()?;
-    let mut spellings = SPELLINGS.iter().filter(|spelling| spelling.kind == kind);
+pub fn disassemble(profile: Profile, word: u32) -> Option<Line> {
+    let kind = Word(word).kind(profile)?;
+    let mut spellings = spellings(profile).iter().filter(|spelling| spelling.kind == kind);
     let spelling = spellings.find(|spelling| word & spelling.telling == spelling.fixed & spelling.telling)?;
     let values: Vec<_> = spelling.operands().map(|operand| operand.get(word)).collect();
-    Some(Line { text: spelling.line(word), unwritten: spelling.word(&values) != Some(word) })
+    Some(Line { text: spelling.line(word), unwritten: spelling.word(profile, &values) != Some(word) })
 }
 
 /// The letters and marks that 9.4 adds to a mnemonic, and the bits that they set.
@@ -173,10 +189,16 @@ const LK: Endings = &[("", 0), ("l", 1)];
 const AA_LK: Endings = &[("", 0), ("l", 1), ("a", 2), ("la", 3)];
 
 /// All of 9.4's syntax lines for the instructions that the core has.
-pub static SPELLINGS: LazyLock<Vec<Spelling>> = LazyLock::new(|| {
-    let rows = SYNTAX.iter().zip(Kind::ALL);
+pub fn spellings(profile: Profile) -> &'static [Spelling] {
+    &SPELLINGS[profile as usize]
+}
+
+static SPELLINGS: LazyLock<[Vec<Spelling>; 2]> = LazyLock::new(|| Profile::BOTH.map(spellings_of));
+
+fn spellings_of(profile: Profile) -> Vec<Spelling> {
+    let rows = SYNTAX.iter().zip(Kind::ALL).filter(|(_, kind)| profile.has(*kind));
     rows.flat_map(|(row, kind)| row.1.iter().map(move |ending| spelling(row, kind, ending))).collect()
-});
+}
 
 fn spelling(row: &(&str, Endings, u32, &str), kind: Kind, ending: &(&str, u32)) -> Spelling {
     let (mnemonic, endings, fixed, operands) = row;
@@ -212,8 +234,8 @@ const fn extended(opcode: u32) -> u32 {
 }
 
 /// The syntax lines in 9.4's order, which is that of `Kind::ALL`: mnemonic, its endings, the word with all of it 0, and
-/// operands. Opcodes are Power ISA's, those of doublewords from Table 1.68.
-const SYNTAX: [(&str, Endings, u32, &str); 87] = [
+/// operands. Opcodes are Power ISA's, those of doublewords from Table 1.68, those of lsku and stsku from Table 1.69.
+const SYNTAX: [(&str, Endings, u32, &str); 94] = [
     ("add", OE_RC, extended(266), "RT,RA,RB"),
     ("addc", OE_RC, extended(10), "RT,RA,RB"),
     ("adde", OE_RC, extended(138), "RT,RA,RB"),
@@ -249,6 +271,7 @@ const SYNTAX: [(&str, Endings, u32, &str); 87] = [
     ("lhz", NONE, primary(40), "RT,D(RA|0)"),
     ("lhzu", NONE, primary(41), "RT,D(RA)"),
     ("lhzx", NONE, extended(279), "RT,RA|0,RB"),
+    ("lsku", NONE, primary(58) | 3, "RT,DD(RA)"),
     ("lvd", NONE, primary(5), "DT,D(RA|0)"),
     ("lvdu", NONE, primary(9), "DT,D(RA)"),
     ("lwz", NONE, primary(32), "RT,D(RA|0)"),
@@ -263,6 +286,8 @@ const SYNTAX: [(&str, Endings, u32, &str); 87] = [
     ("mtspr", NONE, extended(467), "SPRN,RS"),
     ("mullhw", RC, primary(4) | 424 << 1, "RT,RA,RB"),
     ("mullhwu", RC, primary(4) | 392 << 1, "RT,RA,RB"),
+    ("mulli", NONE, primary(7), "RT,RA,SI"),
+    ("mullw", OE_RC, extended(235), "RT,RA,RB"),
     ("nand", RC, extended(476), "RA,RS,RB"),
     ("neg", OE_RC, extended(104), "RT,RA"),
     ("nor", RC, extended(124), "RA,RS,RB"),
@@ -271,6 +296,9 @@ const SYNTAX: [(&str, Endings, u32, &str); 87] = [
     ("ori", NONE, primary(24), "RA,RS,UI"),
     ("oris", NONE, primary(25), "RA,RS,UI"),
     ("rfi", NONE, primary(19) | 50 << 1, ""),
+    ("rldicl", RC, primary(30), "DA,DS,SH64,MB64"),
+    ("rldicr", RC, primary(30) | 1 << 2, "DA,DS,SH64,ME64"),
+    ("rldimi", RC, primary(30) | 3 << 2, "DA,DS,SH64,MB64"),
     ("rlwimi", RC, primary(20), "RA,RS,SH,MB,ME"),
     ("rlwinm", RC, primary(21), "RA,RS,SH,MB,ME"),
     ("rlwnm", RC, primary(23), "RA,RS,RB,MB,ME"),
@@ -284,6 +312,7 @@ const SYNTAX: [(&str, Endings, u32, &str); 87] = [
     ("sth", NONE, primary(44), "RS,D(RA|0)"),
     ("sthu", NONE, primary(45), "RS,D(RA)"),
     ("sthx", NONE, extended(407), "RS,RA|0,RB"),
+    ("stsku", NONE, primary(62) | 3, "RS,DD(RA)"),
     ("stvd", NONE, primary(6), "DS,D(RA|0)"),
     ("stvdu", NONE, primary(22), "DS,D(RA)"),
     ("stw", NONE, primary(36), "RS,D(RA|0)"),

@@ -1,5 +1,6 @@
 //! Interrupts: which asynchronous one is due, and how each is taken (the manual, section 4).
 
+use crate::profile::Profile;
 use crate::registers::{isr, msr, Core};
 use crate::timers::EXTERNAL;
 
@@ -31,8 +32,6 @@ pub enum Taken {
 
 /// Halt code of a machine check or promoted interrupt with MSR[ME] zero.
 const UNTAKEN: u32 = 1;
-
-const MACHINE_CHECK: u32 = 0x000;
 
 impl Asynchronous {
     fn vector(self) -> u32 {
@@ -88,14 +87,14 @@ impl Core {
         self.enter(cause.vector(), msr::ME | msr::SIBRC);
     }
 
-    pub(crate) fn fault(&mut self, fault: Fault) -> Taken {
+    pub(crate) fn fault(&mut self, profile: Profile, fault: Fault) -> Taken {
         self.note(fault);
         if self.msr & msr::UIE != 0 {
             self.enter(fault.vector(), msr::ME | msr::SIBRC);
             Taken::Plainly
         } else if self.msr & msr::ME != 0 {
             self.isr = self.isr & !(isr::MFE | isr::MCS) | fault.status();
-            self.enter(MACHINE_CHECK, msr::SIBRC);
+            self.enter(profile.machine_check(), msr::SIBRC);
             Taken::Promoted
         } else {
             self.enter(fault.vector(), msr::ME | msr::SIBRC);

@@ -1,4 +1,5 @@
-//! A second bench core, written from the manual, the scope and docs/DECISIONS.md, to hold the proved one against.
+//! A second bench core, written from the manual, the scope, request C-16 and docs/DECISIONS.md, to hold the proved one
+//! against. It plays a 42 or a 42X, as the profile says that it is handed.
 
 #![forbid(unsafe_code)]
 
@@ -9,6 +10,7 @@ pub mod disassembler;
 mod execute;
 mod interrupts;
 mod memory;
+mod profile;
 mod refusals;
 pub mod registers;
 mod special;
@@ -20,6 +22,7 @@ mod word;
 
 pub use arithmetic::mask;
 pub use interrupts::{Asynchronous, Fault, Taken};
+pub use profile::Profile;
 pub use registers::Core;
 pub use step::Outcome;
 pub use tell::Access;
@@ -30,75 +33,75 @@ use refusals::{check_budget, check_core, check_events};
 /// Bytes of a state record: 36 big-endian words in the order of a capture.
 pub const STATE: usize = capture::STATE;
 
-pub fn legal(word: u32) -> bool {
-    Word(word).kind().is_some()
+pub fn legal(profile: Profile, word: u32) -> bool {
+    Word(word).kind(profile).is_some()
 }
 
 /// Refusal * 2^32 + steps; a refusal leaves every byte as given.
-pub fn run(state: &mut [u8], memory: &mut [u8], events: &[u8], budget: u32) -> u64 {
-    answer(accept(state, memory, events, budget).map(|mut core| {
-        let steps = core.run(memory, events, budget);
+pub fn run(profile: Profile, state: &mut [u8], memory: &mut [u8], events: &[u8], budget: u32) -> u64 {
+    answer(accept(profile, state, memory, events, budget).map(|mut core| {
+        let steps = core.run(profile, memory, events, budget);
         capture::write_words(&core.to_words(), state);
         steps
     }))
 }
 
 /// The same run and answer, + 2^63 if the run reached past its memory.
-pub fn run_reach(state: &mut [u8], memory: &mut [u8], events: &[u8], budget: u32) -> u64 {
-    run_telling(Core::run_reach, state, memory, events, budget)
+pub fn run_reach(profile: Profile, state: &mut [u8], memory: &mut [u8], events: &[u8], budget: u32) -> u64 {
+    run_telling(Core::run_reach, profile, state, memory, events, budget)
 }
 
 /// The same, but the run ends already with the first step that reaches past its memory.
-pub fn run_inside(state: &mut [u8], memory: &mut [u8], events: &[u8], budget: u32) -> u64 {
-    run_telling(Core::run_inside, state, memory, events, budget)
+pub fn run_inside(profile: Profile, state: &mut [u8], memory: &mut [u8], events: &[u8], budget: u32) -> u64 {
+    run_telling(Core::run_inside, profile, state, memory, events, budget)
 }
 
 /// A run that gives its steps and whether it reached.
-type Telling = fn(&mut Core, &mut [u8], &[u8], u32) -> (u32, bool);
+type Telling = fn(&mut Core, Profile, &mut [u8], &[u8], u32) -> (u32, bool);
 
-fn run_telling(run: Telling, state: &mut [u8], memory: &mut [u8], events: &[u8], budget: u32) -> u64 {
-    let mut core = match accept(state, memory, events, budget) {
+fn run_telling(run: Telling, profile: Profile, state: &mut [u8], memory: &mut [u8], events: &[u8], budget: u32) -> u64 {
+    let mut core = match accept(profile, state, memory, events, budget) {
         Ok(core) => core,
         Err(refusal) => return answer(Err(refusal)),
     };
-    let (steps, reached) = run(&mut core, memory, events, budget);
+    let (steps, reached) = run(&mut core, profile, memory, events, budget);
     capture::write_words(&core.to_words(), state);
     answer(Ok(steps)) | (reached as u64) << 63
 }
 
 /// The same as `run` for one step.
-pub fn step(state: &mut [u8], memory: &mut [u8], event: u8) -> u64 {
-    run(state, memory, &[event], 1)
+pub fn step(profile: Profile, state: &mut [u8], memory: &mut [u8], event: u8) -> u64 {
+    run(profile, state, memory, &[event], 1)
 }
 
 /// Refusal of that step * 2^32 + what it would come to, by its number.
-pub fn tell(state: &[u8], memory: &[u8], event: u8) -> u64 {
-    answer(accept(state, memory, &[event], 1).map(|core| core.tell(memory, event).told()))
+pub fn tell(profile: Profile, state: &[u8], memory: &[u8], event: u8) -> u64 {
+    answer(accept(profile, state, memory, &[event], 1).map(|core| core.tell(profile, memory, event).told()))
 }
 
 /// The data access that the step would try, or 0 if it tries none or is refused.
-pub fn access(state: &[u8], memory: &[u8], event: u8) -> u64 {
-    let access = accept(state, memory, &[event], 1).ok().and_then(|core| core.access(memory, event));
+pub fn access(profile: Profile, state: &[u8], memory: &[u8], event: u8) -> u64 {
+    let access = accept(profile, state, memory, &[event], 1).ok().and_then(|core| core.access(profile, memory, event));
     access.map_or(0, Access::answer)
 }
 
 /// The core that a run starts from, or its refusal.
-pub fn accept(state: &[u8], memory: &[u8], events: &[u8], budget: u32) -> Result<Core, u32> {
+pub fn accept(profile: Profile, state: &[u8], memory: &[u8], events: &[u8], budget: u32) -> Result<Core, u32> {
     let words = capture::read_words(state)?;
-    check_core(&words, memory.len())?;
+    check_core(profile, &words, memory.len())?;
     check_budget(budget)?;
     check_events(events)?;
     Ok(Core::from_words(&words))
 }
 
 /// Refusal * 2^32 + the length of the capture's memory.
-pub fn capture_check(file: &[u8]) -> u64 {
-    answer(capture::check(file))
+pub fn capture_check(profile: Profile, file: &[u8]) -> u64 {
+    answer(capture::check(profile, file))
 }
 
 /// Refusal * 2^32 + bytes written.
-pub fn capture_write(state: &[u8], memory: &[u8], out: &mut [u8]) -> u64 {
-    answer(capture::write(state, memory, out))
+pub fn capture_write(profile: Profile, state: &[u8], memory: &[u8], out: &mut [u8]) -> u64 {
+    answer(capture::write(profile, state, memory, out))
 }
 
 /// Refusal * 2^32 + its line, counted from 1 and not beyond 2^32 - 1; a refusal leaves every byte as given.
@@ -115,8 +118,8 @@ pub fn srec_write(memory: &[u8], out: &mut [u8]) -> u64 {
 }
 
 /// Refusal * 2^48 + column * 2^32 + word of a line.
-pub fn assemble(line: &[u8]) -> u64 {
-    let (refusal, column, word) = assembler::assemble(line);
+pub fn assemble(profile: Profile, line: &[u8]) -> u64 {
+    let (refusal, column, word) = assembler::assemble(profile, line);
     (refusal as u64) << 48 | (column as u64) << 32 | word as u64
 }
 
@@ -125,11 +128,11 @@ pub const LINE: usize = 64;
 
 /// 2^32 + bytes of the word's line, which are written, + 2^33 where it leaves out a field that is not 0; 0 for an illegal
 /// word; refusal * 2^48 where the buffer is shorter than `LINE`.
-pub fn disassemble(word: u32, out: &mut [u8]) -> u64 {
+pub fn disassemble(profile: Profile, word: u32, out: &mut [u8]) -> u64 {
     if out.len() < LINE {
         return 8 << 48;
     }
-    let Some(line) = disassembler::disassemble(word) else {
+    let Some(line) = disassembler::disassemble(profile, word) else {
         return 0;
     };
     out[..line.text.len()].copy_from_slice(line.text.as_bytes());

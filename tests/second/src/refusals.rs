@@ -1,6 +1,7 @@
 //! The numbered refusals, in order of check (the scope, "Refusal numbers").
 
-use crate::registers::{GPRS, OTHERS, WORDS};
+use crate::profile::Profile;
+use crate::registers::{others, GPRS, WORDS};
 
 pub const BAD_MEMORY: u32 = 1;
 pub const BAD_IAR: u32 = 2;
@@ -25,9 +26,9 @@ pub fn check_memory(length: usize) -> Result<(), u32> {
 }
 
 /// Refusals 1, 2 and 3.
-pub fn check_core(words: &[u32; WORDS], memory_length: usize) -> Result<(), u32> {
+pub fn check_core(profile: Profile, words: &[u32; WORDS], memory_length: usize) -> Result<(), u32> {
     let [.., iar, halt] = *words;
-    let reserved = words[GPRS.len()..].iter().zip(OTHERS).any(|(word, (_, defined))| word & !defined != 0);
+    let reserved = words[GPRS.len()..].iter().zip(others(profile)).any(|(word, (_, defined))| word & !defined != 0);
     check_memory(memory_length)?;
     if !iar.is_multiple_of(4) {
         Err(BAD_IAR)

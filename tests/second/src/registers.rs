@@ -1,5 +1,7 @@
 //! The registers, in the order of a capture, and the bits that the manual's section 8.10 defines in each.
 
+use crate::profile::Profile;
+
 /// The bit that the manual numbers `n`, counting from the left.
 pub const fn bit(n: u32) -> u32 {
     1 << (31 - n)
@@ -21,14 +23,24 @@ pub mod cr {
 }
 
 pub mod dbcr {
-    use super::bit;
-    pub const DEFINED: u32 = RST | TRAP | IACE | DACE;
+    use super::{bit, Profile};
+    /// Those that both cores define.
+    const COMMON: u32 = RST | TRAP | IACE | DACE;
     pub const RST: u32 = bit(2) | bit(3);
     pub const TRAP: u32 = bit(7);
     pub const IACE: u32 = bit(8);
     pub const DACE: u32 = bit(12) | bit(13);
+    /// ACS, ZACE, HDFI and HDFT, which the 42X alone defines.
+    pub const OF_42X: u32 = bit(24) | bit(25) | bit(29) | bit(30) | bit(31);
     /// The right end of RST, as a shift.
     pub const RST_SHIFT: u32 = 28;
+
+    pub const fn defined(profile: Profile) -> u32 {
+        match profile {
+            Profile::Ppe42 => COMMON,
+            Profile::Ppe42x => COMMON | OF_42X,
+        }
+    }
 }
 
 pub mod isr {
@@ -73,17 +85,30 @@ pub mod srr0 {
 }
 
 pub mod tcr {
-    use super::bit;
-    pub const DEFINED: u32 = WP | WRC | WIE | DIE | FP | FIE | DS;
+    use super::{bit, Profile};
+    /// Those that both cores define.
+    const COMMON: u32 = WP | WRC | WIE | DIE | FP | FIE | DS_INPUT;
     pub const WP: u32 = bit(0) | bit(1);
     pub const WRC: u32 = bit(2) | bit(3);
     pub const WIE: u32 = bit(4);
     pub const DIE: u32 = bit(5);
     pub const FP: u32 = bit(6) | bit(7);
     pub const FIE: u32 = bit(8);
-    pub const DS: u32 = bit(9);
+    pub const DS: u32 = bit(9) | bit(10);
+    /// DS that has DEC count on its own input.
+    pub const DS_INPUT: u32 = bit(9);
+    /// The second bit of DS, which the 42X alone defines.
+    pub const OF_42X: u32 = bit(10);
     pub const WP_SHIFT: u32 = 30;
     pub const FP_SHIFT: u32 = 24;
+    pub const DS_SHIFT: u32 = 21;
+
+    pub const fn defined(profile: Profile) -> u32 {
+        match profile {
+            Profile::Ppe42 => COMMON,
+            Profile::Ppe42x => COMMON | OF_42X,
+        }
+    }
 }
 
 pub mod tsr {
@@ -108,26 +133,28 @@ pub mod xer {
 const ALL: u32 = u32::MAX;
 
 /// The eighteen other registers in the order of a capture, each with its defined bits.
-pub const OTHERS: [(&str, u32); 18] = [
-    ("CR", cr::DEFINED),
-    ("CTR", ALL),
-    ("DACR", ALL),
-    ("DBCR", dbcr::DEFINED),
-    ("DEC", ALL),
-    ("EDR", ALL),
-    ("ISR", isr::DEFINED),
-    ("IVPR", ivpr::DEFINED),
-    ("LR", ALL),
-    ("MSR", msr::DEFINED),
-    ("PIR", pir::DEFINED),
-    ("PVR", ALL),
-    ("SPRG0", ALL),
-    ("SRR0", srr0::DEFINED),
-    ("SRR1", msr::DEFINED),
-    ("TCR", tcr::DEFINED),
-    ("TSR", tsr::DEFINED),
-    ("XER", xer::DEFINED),
-];
+pub const fn others(profile: Profile) -> [(&'static str, u32); 18] {
+    [
+        ("CR", cr::DEFINED),
+        ("CTR", ALL),
+        ("DACR", ALL),
+        ("DBCR", dbcr::defined(profile)),
+        ("DEC", ALL),
+        ("EDR", ALL),
+        ("ISR", isr::DEFINED),
+        ("IVPR", ivpr::DEFINED),
+        ("LR", ALL),
+        ("MSR", msr::DEFINED),
+        ("PIR", pir::DEFINED),
+        ("PVR", ALL),
+        ("SPRG0", ALL),
+        ("SRR0", srr0::DEFINED),
+        ("SRR1", msr::DEFINED),
+        ("TCR", tcr::defined(profile)),
+        ("TSR", tsr::DEFINED),
+        ("XER", xer::DEFINED),
+    ]
+}
 
 /// A core's registers, each general purpose register under its own number.
 #[derive(Clone, Debug, PartialEq, Eq)]

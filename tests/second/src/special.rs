@@ -1,5 +1,6 @@
 //! The special purpose registers as mfspr and mtspr see them (the manual, 8.6 and 8.10).
 
+use crate::profile::Profile;
 use crate::registers::{dbcr, isr, msr, srr0, tcr, tsr, xer, Core};
 use crate::word::spr;
 
@@ -31,7 +32,7 @@ impl Core {
         }
     }
 
-    pub(crate) fn write_spr(&mut self, number: u32, value: u32) {
+    pub(crate) fn write_spr(&mut self, profile: Profile, number: u32, value: u32) {
         match number {
             spr::XER => self.xer = value & xer::DEFINED,
             spr::LR => self.lr = value,
@@ -43,17 +44,17 @@ impl Core {
             // EP is read-only.
             spr::ISR => self.isr = self.isr & isr::EP | value & isr::DEFINED & !isr::EP,
             spr::SPRG0 => self.sprg0 = value,
-            spr::DBCR => self.write_dbcr(value),
+            spr::DBCR => self.write_dbcr(profile, value),
             spr::DACR => self.dacr = value,
             // A one clears.
             spr::TSR => self.tsr &= !(value & tsr::DEFINED),
-            spr::TCR => self.tcr = value & tcr::DEFINED,
+            spr::TCR => self.tcr = value & tcr::defined(profile),
             _ => unreachable!("mtspr to another number is illegal"),
         }
     }
 
-    fn write_dbcr(&mut self, value: u32) {
-        self.dbcr = value & dbcr::DEFINED & !dbcr::RST;
+    fn write_dbcr(&mut self, profile: Profile, value: u32) {
+        self.dbcr = value & dbcr::defined(profile) & !dbcr::RST;
         match (value & dbcr::RST) >> dbcr::RST_SHIFT {
             0 => {}
             3 => self.halt = HALT_WRITTEN,

@@ -2,6 +2,7 @@
 
 use crate::interrupts::{Asynchronous, Fault, Taken};
 use crate::memory;
+use crate::profile::Profile;
 use crate::registers::{msr, Core};
 use crate::timers::Watchdog;
 use crate::word::{Kind, Word};
@@ -32,13 +33,13 @@ impl Core {
     /// One step on a state, memory and event that no refusal meets.
     // Three loops have it: a call in each step would slow them by two or three percent.
     #[inline(always)]
-    pub fn step(&mut self, memory: &mut [u8], event: u8) -> Outcome {
+    pub fn step(&mut self, profile: Profile, memory: &mut [u8], event: u8) -> Outcome {
         if let Some(outcome) = self.begin(event) {
             return outcome;
         }
-        match self.fetch_and_execute(memory) {
+        match self.fetch_and_execute(profile, memory) {
             Ok(kind) => Outcome::Executed(kind),
-            Err(fault) => Outcome::Faulted(fault, self.fault(fault)),
+            Err(fault) => Outcome::Faulted(fault, self.fault(profile, fault)),
         }
     }
 
@@ -66,22 +67,22 @@ impl Core {
         (self.msr & msr::WE != 0).then_some(Outcome::Waited)
     }
 
-    fn fetch_and_execute(&mut self, memory: &mut [u8]) -> Result<Kind, Fault> {
+    fn fetch_and_execute(&mut self, profile: Profile, memory: &mut [u8]) -> Result<Kind, Fault> {
         let word = memory::fetch(memory, self.iar)?;
-        let kind = Word(word).kind().ok_or(Fault::Program { word, trap: false })?;
-        self.execute(kind, Word(word), memory)?;
+        let kind = Word(word).kind(profile).ok_or(Fault::Program { word, trap: false })?;
+        self.execute(profile, kind, Word(word), memory)?;
         Ok(kind)
     }
 
     /// The number of steps taken: up to the one that halts, at most the budget.
-    pub fn run(&mut self, memory: &mut [u8], events: &[u8], budget: u32) -> u32 {
-        self.play(memory, events, budget, |_| true)
+    pub fn run(&mut self, profile: Profile, memory: &mut [u8], events: &[u8], budget: u32) -> u32 {
+        self.play(profile, memory, events, budget, |_| true)
     }
 
     /// The same, and whether a step of the run reached past memory.
-    pub fn run_reach(&mut self, memory: &mut [u8], events: &[u8], budget: u32) -> (u32, bool) {
+    pub fn run_reach(&mut self, profile: Profile, memory: &mut [u8], events: &[u8], budget: u32) -> (u32, bool) {
         let mut reached = false;
-        let steps = self.play(memory, events, budget, |outcome| {
+        let steps = self.play(profile, memory, events, budget, |outcome| {
             reached |= outcome.reached();
             true
         });
@@ -89,9 +90,9 @@ impl Core {
     }
 
     /// The same, but the first step that reaches past memory is the last.
-    pub fn run_inside(&mut self, memory: &mut [u8], events: &[u8], budget: u32) -> (u32, bool) {
+    pub fn run_inside(&mut self, profile: Profile, memory: &mut [u8], events: &[u8], budget: u32) -> (u32, bool) {
         let mut reached = false;
-        let steps = self.play(memory, events, budget, |outcome| {
+        let steps = self.play(profile, memory, events, budget, |outcome| {
             reached = outcome.reached();
             !reached
         });
@@ -99,11 +100,18 @@ impl Core {
     }
 
     /// Goes on after a step if what it came to lets it.
-    fn play(&mut self, memory: &mut [u8], events: &[u8], budget: u32, mut on: impl FnMut(Outcome) -> bool) -> u32 {
+    fn play(
+        &mut self,
+        profile: Profile,
+        memory: &mut [u8],
+        events: &[u8],
+        budget: u32,
+        mut on: impl FnMut(Outcome) -> bool,
+    ) -> u32 {
         let mut steps = 0;
         while steps < budget && self.halt == 0 {
             let event = events.get(steps as usize).copied().unwrap_or(0);
-            let outcome = self.step(memory, event);
+            let outcome = self.step(profile, memory, event);
             steps += 1;
             if !on(outcome) {
                 break;

@@ -2,18 +2,22 @@
 
 use crate::interrupts::{Asynchronous, Fault};
 use crate::memory;
+use crate::profile::Profile;
 use crate::registers::Core;
 use crate::step::Outcome;
 use crate::word::{Kind, Word};
 
-/// A data access that an instruction tries.
+/// A data access that an instruction tries; of lsku and stsku the frame that holds all of theirs.
 #[derive(Clone, Copy, Debug, PartialEq, Eq)]
 pub struct Access {
-    /// Its first address; of dcbz the block's.
+    /// Its first address; of dcbz the block's, of a frame that of its lower end.
     pub address: u32,
     pub bytes: u32,
     pub writes: bool,
 }
+
+/// Bytes of a frame's header, which are the back pointer and LR. What is told ends with the header of the frame above.
+const HEADER: u32 = 8;
 
 impl Access {
     /// Address + bytes * 2^32, + 2^63 if it writes.
@@ -45,17 +49,17 @@ impl Outcome {
 
 impl Core {
     /// What the next step would come to: it is taken on copies.
-    pub fn tell(&self, memory: &[u8], event: u8) -> Outcome {
-        self.clone().step(&mut memory.to_vec(), event)
+    pub fn tell(&self, profile: Profile, memory: &[u8], event: u8) -> Outcome {
+        self.clone().step(profile, &mut memory.to_vec(), event)
     }
 
     /// The data access that the next step would try, be it one that faults.
-    pub fn access(&self, memory: &[u8], event: u8) -> Option<Access> {
+    pub fn access(&self, profile: Profile, memory: &[u8], event: u8) -> Option<Access> {
         if self.clone().begin(event).is_some() {
             return None;
         }
         let word = Word(memory::fetch(memory, self.iar).ok()?);
-        self.tries(word.kind()?, word)
+        self.tries(word.kind(profile)?, word)
     }
 
     /// That of a legal word, as the registers are.
@@ -71,10 +75,14 @@ impl Core {
             Stw | Stwu | Stwx => (4, true),
             Stvd | Stvdu => (8, true),
             Dcbz => (memory::BLOCK, true),
+            Lsku => (word.frame() + HEADER, false),
+            Stsku => (word.frame().wrapping_neg() + HEADER, true),
             _ => return None,
         };
         let address = match kind {
             Dcbz => memory::block_of(self.indexed(word)),
+            Lsku => self.gpr[word.ra()],
+            Stsku => self.gpr[word.ra()].wrapping_add(word.frame()),
             Lbzx | Lhzx | Lwzx | Stbx | Sthx | Stwx => self.indexed(word),
             _ => self.displaced(word),
         };

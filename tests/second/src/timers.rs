@@ -18,7 +18,7 @@ pub enum Watchdog {
 impl Core {
     /// Line 2 of a step.
     pub(crate) fn apply(&mut self, event: u8) -> Watchdog {
-        if self.tcr & tcr::DS == 0 || event & DECREMENTER != 0 {
+        if self.counts(event) {
             self.set_dec(self.dec.wrapping_sub(1));
         }
         if event & TIMER_0 << ((self.tcr & tcr::FP) >> tcr::FP_SHIFT) != 0 {
@@ -31,6 +31,16 @@ impl Core {
         };
         self.work_out_ep(event);
         watchdog
+    }
+
+    /// Whether DEC counts, by TCR[DS]. Its second bit is reserved on the 42, so that 0 and 2 are all that occur there.
+    fn counts(&self, event: u8) -> bool {
+        match (self.tcr & tcr::DS) >> tcr::DS_SHIFT {
+            0 => true,
+            1 => event & TIMER_0 << 1 != 0,
+            2 => event & DECREMENTER != 0,
+            _ => event & TIMER_0 << 3 != 0,
+        }
     }
 
     /// DEC takes a value; its bit 0 going from 0 to 1 is the decrementer's event.

@@ -1,15 +1,16 @@
 //! Reading a word: its fields, and which of the manual's instructions it is.
 
+use crate::profile::Profile;
 use crate::registers::GPRS;
 
 macro_rules! kinds {
     ($($kind:ident $mnemonic:literal),* $(,)?) => {
-        /// The 87 instructions of the manual's 9.4 that the bench core plays.
+        /// The 94 instructions of the manual's 9.4 that the bench core plays; seven are the 42X's alone.
         #[derive(Clone, Copy, Debug, PartialEq, Eq)]
         pub enum Kind { $($kind),* }
 
         impl Kind {
-            pub const ALL: [Kind; 87] = [$(Kind::$kind),*];
+            pub const ALL: [Kind; 94] = [$(Kind::$kind),*];
 
             pub fn mnemonic(self) -> &'static str {
                 match self { $(Kind::$kind => $mnemonic),* }
@@ -24,12 +25,15 @@ kinds! {
     B "b", Bc "bc", Bcctr "bcctr", Bclr "bclr",
     Cmplw "cmplw", Cmplwi "cmplwi", Cmpw "cmpw", Cmpwi "cmpwi", Cntlzw "cntlzw",
     Dcbf "dcbf", Dcbi "dcbi", Dcbt "dcbt", Dcbz "dcbz", Eqv "eqv", Extsb "extsb", Extsh "extsh",
-    Lbz "lbz", Lbzu "lbzu", Lbzx "lbzx", Lhz "lhz", Lhzu "lhzu", Lhzx "lhzx", Lvd "lvd", Lvdu "lvdu",
+    Lbz "lbz", Lbzu "lbzu", Lbzx "lbzx", Lhz "lhz", Lhzu "lhzu", Lhzx "lhzx", Lsku "lsku", Lvd "lvd", Lvdu "lvdu",
     Lwz "lwz", Lwzu "lwzu", Lwzx "lwzx",
     Mfcr "mfcr", Mfmsr "mfmsr", Mfspr "mfspr", Mtcr0 "mtcr0", Mtmsr "mtmsr", Mtspr "mtspr",
-    Mullhw "mullhw", Mullhwu "mullhwu", Nand "nand", Neg "neg", Nor "nor", Or "or", Orc "orc", Ori "ori", Oris "oris",
-    Rfi "rfi", Rlwimi "rlwimi", Rlwinm "rlwinm", Rlwnm "rlwnm", Slw "slw", Sraw "sraw", Srawi "srawi", Srw "srw",
-    Stb "stb", Stbu "stbu", Stbx "stbx", Sth "sth", Sthu "sthu", Sthx "sthx", Stvd "stvd", Stvdu "stvdu",
+    Mullhw "mullhw", Mullhwu "mullhwu", Mulli "mulli", Mullw "mullw",
+    Nand "nand", Neg "neg", Nor "nor", Or "or", Orc "orc", Ori "ori", Oris "oris",
+    Rfi "rfi", Rldicl "rldicl", Rldicr "rldicr", Rldimi "rldimi", Rlwimi "rlwimi", Rlwinm "rlwinm", Rlwnm "rlwnm",
+    Slw "slw", Sraw "sraw", Srawi "srawi", Srw "srw",
+    Stb "stb", Stbu "stbu", Stbx "stbx", Sth "sth", Sthu "sthu", Sthx "sthx",
+    Stsku "stsku", Stvd "stvd", Stvdu "stvdu",
     Stw "stw", Stwu "stwu", Stwx "stwx",
     Subf "subf", Subfc "subfc", Subfe "subfe", Subfic "subfic", Subfme "subfme", Subfze "subfze",
     Sync "sync", Tw "tw", Wrtee "wrtee", Wrteei "wrteei", Xor "xor", Xori "xori", Xoris "xoris",
@@ -79,6 +83,15 @@ const DEFINED: u32 = {
     set
 };
 
+fn is_defined(register: usize) -> bool {
+    DEFINED >> register & 1 == 1
+}
+
+/// The low-order register of the pair that a register begins: the next one, and 0 after 31 (8.4).
+pub fn low_of(first: usize) -> usize {
+    (first + 1) % 32
+}
+
 /// A word with the fields that Power ISA 2.07 gives it.
 #[derive(Clone, Copy, Debug, PartialEq, Eq)]
 pub struct Word(pub u32);
@@ -93,16 +106,17 @@ impl Word {
         self.field(place, place) == 1
     }
 
-    /// RT or RS; of DT or DS the high-order register.
+    /// RT or RS; of DT or DS the first register, which has the high-order word.
     pub fn rt(self) -> usize {
         self.field(6, 10) as usize
     }
 
-    /// The low-order register of DT or DS: the next one, and 0 after 31 (8.4).
+    /// The low-order register of DT or DS.
     pub fn rt_low(self) -> usize {
-        (self.rt() + 1) % 32
+        low_of(self.rt())
     }
 
+    /// RA; of DA the first register.
     pub fn ra(self) -> usize {
         self.field(11, 15) as usize
     }
@@ -140,8 +154,33 @@ impl Word {
         self.field(26, 30)
     }
 
+    /// SH of the doubleword rotates, whose high-order bit stands apart.
+    pub fn long_sh(self) -> u32 {
+        self.field(30, 30) << 5 | self.field(16, 20)
+    }
+
+    /// MB or ME of the doubleword rotates, whose high-order bit stands last.
+    pub fn long_mask(self) -> u32 {
+        self.field(26, 26) << 5 | self.field(21, 25)
+    }
+
+    /// DD as it stands, without its sign (Table 1.71).
+    pub fn dd(self) -> u32 {
+        self.field(16, 28)
+    }
+
+    /// DD with three zeros on its right, extended by its sign.
+    pub fn frame(self) -> u32 {
+        self.si() & !7
+    }
+
     pub fn to(self) -> u32 {
         self.field(6, 10)
+    }
+
+    /// TG of tw, which stands where others have Rc.
+    pub fn tg(self) -> bool {
+        self.flag(31)
     }
 
     /// Bit `place` of BO, counted from the left.
@@ -181,14 +220,20 @@ impl Word {
         self.flag(16)
     }
 
-    /// The instruction that the word is, or nothing if it is illegal. Primary opcodes 5, 6, 9 and 22 are those of
-    /// Table 1.68, the others Power ISA's.
-    pub fn kind(self) -> Option<Kind> {
+    /// The instruction that the word is, or nothing if it is illegal.
+    pub fn kind(self, profile: Profile) -> Option<Kind> {
+        self.kind_of_any(profile).filter(|kind| profile.has(*kind))
+    }
+
+    /// The same of all instructions, those that the core lacks too. Primary opcodes 5, 6, 9 and 22 are those of Table
+    /// 1.68, 58 and 62 those of Table 1.69, the others Power ISA's.
+    fn kind_of_any(self, profile: Profile) -> Option<Kind> {
         use Kind::*;
         let (kind, valid) = match self.field(0, 5) {
             4 => return self.kind_of_4(),
             5 => (Lvd, self.two() && self.paired()),
             6 => (Stvd, self.two() && self.paired()),
+            7 => (Mulli, self.two()),
             8 => (Subfic, self.two()),
             9 => (Lvdu, self.updating_load() && self.paired() && self.ra() != self.rt_low()),
             10 => (Cmplwi, self.compares() && self.defined(11)),
@@ -210,7 +255,8 @@ impl Word {
             27 => (Xoris, self.two()),
             28 => (Andi, self.two()),
             29 => (Andis, self.two()),
-            31 => return self.kind_of_31(),
+            30 => return self.kind_of_30(),
+            31 => return self.kind_of_31(profile),
             32 => (Lwz, self.two()),
             33 => (Lwzu, self.updating_load()),
             34 => (Lbz, self.two()),
@@ -223,6 +269,8 @@ impl Word {
             41 => (Lhzu, self.updating_load()),
             44 => (Sth, self.two()),
             45 => (Sthu, self.updating_store()),
+            58 => (Lsku, self.stack_frame() && self.clear(16, 16) && !self.clear(16, 28)),
+            62 => (Stsku, self.stack_frame() && !self.clear(16, 16)),
             _ => return None,
         };
         valid.then_some(kind)
@@ -247,11 +295,21 @@ impl Word {
         valid.then_some(kind)
     }
 
-    fn kind_of_31(self) -> Option<Kind> {
+    fn kind_of_30(self) -> Option<Kind> {
+        let kind = match self.field(27, 29) {
+            0 => Kind::Rldicl,
+            1 => Kind::Rldicr,
+            3 => Kind::Rldimi,
+            _ => return None,
+        };
+        (self.two() && self.paired() && is_defined(low_of(self.ra()))).then_some(kind)
+    }
+
+    fn kind_of_31(self, profile: Profile) -> Option<Kind> {
         use Kind::*;
         let (kind, valid) = match self.field(21, 30) {
             0 => (Cmpw, self.compares() && self.indexes() && self.plain()),
-            4 => (Tw, self.indexes() && matches!(self.to(), 0 | 31)),
+            4 => (Tw, self.marks(profile) || self.indexes() && matches!(self.to(), 0 | 31)),
             8 | 520 => (Subfc, self.three()),
             10 | 522 => (Addc, self.three()),
             19 => (Mfcr, self.defined(6) && self.clear(11, 20) && self.plain()),
@@ -279,6 +337,7 @@ impl Word {
             215 => (Stbx, self.three() && self.plain()),
             232 | 744 => (Subfme, self.two() && self.clear(16, 20)),
             234 | 746 => (Addme, self.two() && self.clear(16, 20)),
+            235 | 747 => (Mullw, self.three()),
             266 | 778 => (Add, self.three()),
             278 => (Dcbt, self.indexes() && self.plain()),
             279 => (Lhzx, self.three() && self.plain()),
@@ -305,7 +364,7 @@ impl Word {
 
     /// The five bits from `first` on name one of the sixteen registers.
     fn defined(self, first: u32) -> bool {
-        DEFINED >> self.field(first, first + 4) & 1 == 1
+        is_defined(self.field(first, first + 4) as usize)
     }
 
     fn two(self) -> bool {
@@ -314,7 +373,7 @@ impl Word {
 
     /// The register after RT is defined as well, so that RT designates a pair (Table 1.33).
     fn paired(self) -> bool {
-        DEFINED >> self.rt_low() & 1 == 1
+        is_defined(self.rt_low())
     }
 
     /// RA and RB are defined.
@@ -332,6 +391,16 @@ impl Word {
 
     fn updating_store(self) -> bool {
         self.two() && self.ra() != 0
+    }
+
+    /// DD form: one register in both places, CX 0 and extended opcode 3.
+    fn stack_frame(self) -> bool {
+        self.updating_store() && self.ra() == self.rt() && self.field(29, 31) == 0b011
+    }
+
+    /// A tw that traps on no account, whatever its other fields hold (Table 1.96). The 42 does not look at TG.
+    pub(crate) fn marks(self, profile: Profile) -> bool {
+        profile.is_42x() && self.tg()
     }
 
     /// A word compare that sets CR0.

@@ -30,7 +30,7 @@ fn number(bytes: &[u8]) -> u32 {
 
 /// DEC stands still; r4 + 8 and r4 + r7 are the address.
 fn ready(address: u32) -> Core {
-    let mut core = Core { tcr: tcr::DS, ..core() };
+    let mut core = Core { tcr: tcr::DS_INPUT, ..core() };
     (core.gpr[4], core.gpr[7]) = (address.wrapping_sub(8), 8);
     (core.gpr[5], core.gpr[6]) = (number(&PAIR[..4]), number(&PAIR[4..]));
     core
@@ -82,7 +82,7 @@ fn check(word: u32, access: Access, updates: bool) {
     let start = ready(access.address);
     let before: Vec<u8> = word.to_be_bytes().into_iter().chain(4..M as u8).collect();
     let (mut core, mut memory) = (start.clone(), before.clone());
-    let (steps, reached) = core.run_reach(&mut memory, &[], 1);
+    let (steps, reached) = core.run_reach(Ppe42, &mut memory, &[], 1);
     assert_eq!(steps, 1);
     assert_eq!((core, memory, reached), left(&start, &before, access, updates), "{word:08X}, {access:?}");
 }

@@ -1,9 +1,18 @@
 //! Lines and their words: what request C-12 says, what 9.4 says of extended mnemonics, and the grammar tried by hand.
 
-use second::assembler::assemble;
-use second::disassembler::{disassemble, SPELLINGS};
+use second::assembler;
+use second::disassembler::{self, spellings, Line};
+use second::Profile::Ppe42;
 use second::{Kind, Word};
 use std::collections::BTreeSet;
+
+fn assemble(line: &[u8]) -> (u32, u32, u32) {
+    assembler::assemble(Ppe42, line)
+}
+
+fn disassemble(word: u32) -> Option<Line> {
+    disassembler::disassemble(Ppe42, word)
+}
 
 fn word(line: &str) -> u32 {
     let (refusal, column, word) = assemble(line.as_bytes());
@@ -19,9 +28,9 @@ fn assert_refused(refusal: u32, lines: &[(&str, u32)]) {
 
 #[test]
 fn spellings_of_9_4() {
-    let mnemonics: BTreeSet<_> = SPELLINGS.iter().map(|spelling| &spelling.mnemonic).collect();
-    assert_eq!((SPELLINGS.len(), mnemonics.len()), (148, 148));
-    assert!(Kind::ALL.iter().all(|kind| mnemonics.contains(&kind.mnemonic().to_string())));
+    let mnemonics: BTreeSet<_> = spellings(Ppe42).iter().map(|spelling| &spelling.mnemonic).collect();
+    assert_eq!((spellings(Ppe42).len(), mnemonics.len()), (148, 148));
+    assert!(Kind::ALL.iter().all(|kind| Ppe42.has(*kind) == mnemonics.contains(&kind.mnemonic().to_string())));
 }
 
 /// The words that firmware has for these.
@@ -304,7 +313,7 @@ fn lines_make_their_words() {
     let mut legal = 0;
     for sample in (0..=u32::MAX).step_by(32_771) {
         let line = disassemble(sample);
-        assert_eq!(line.is_some(), Word(sample).kind().is_some());
+        assert_eq!(line.is_some(), Word(sample).kind(Ppe42).is_some());
         let Some(line) = line else { continue };
         let made = word(&line.text);
         assert_eq!(made != sample, line.unwritten, "{sample:08X}");

@@ -7,7 +7,7 @@ use second::registers::{bit, cr, dbcr, isr, msr, tcr, tsr, xer, GPRS};
 use second::{Asynchronous, Core, Fault, Kind, Outcome, Taken, Word};
 
 fn step(core: &mut Core, words: &[u32], event: u8) -> Outcome {
-    core.step(&mut memory(words, 512), event)
+    core.step(Ppe42, &mut memory(words, 512), event)
 }
 
 /// 2.11.3.2: the most negative number added to itself, and two large positive ones.
@@ -155,7 +155,7 @@ fn traps() {
     assert_eq!(halting, before);
     let mark = x_form(0, 31, 1, 4, 0);
     assert_eq!(after(core(), &[mark]).iar, 4);
-    assert!(!second::legal(x_form(4, 0, 0, 4, 0)) && !second::legal(x_form(31, 11, 0, 4, 1)));
+    assert!(!second::legal(Ppe42, x_form(4, 0, 0, 4, 0)) && !second::legal(Ppe42, x_form(31, 11, 0, 4, 1)));
 }
 
 /// 4.3.2 and 4.5: priority and vectors of the asynchronous interrupts, the wait state left by one.
@@ -185,7 +185,7 @@ fn enabling_and_waiting() {
     (start.gpr[3], start.tcr, start.tsr) = (msr::EE | msr::UIE, tcr::FIE, tsr::FIS);
     let mtmsr = x_form(3, 0, 0, 146, 0);
     let mut end = start.clone();
-    end.run(&mut memory(&[mtmsr, BRANCH_TO_ITSELF], 32), &[], 2);
+    end.run(Ppe42, &mut memory(&[mtmsr, BRANCH_TO_ITSELF], 32), &[], 2);
     assert_eq!((end.iar, end.srr0, end.srr1), (0x120, 4, msr::EE | msr::UIE));
     (start.srr0, start.srr1) = (0x44, msr::WE);
     end = after(start, &[RFI, 0]);
@@ -224,7 +224,7 @@ fn interval_timer() {
 #[test]
 fn decrementer() {
     let mut core = core();
-    (core.tcr, core.dec) = (tcr::DS, 0);
+    (core.tcr, core.dec) = (tcr::DS_INPUT, 0);
     step(&mut core, &[BRANCH_TO_ITSELF], 0b111101);
     assert_eq!((core.dec, core.tsr & tsr::DIS), (0, 0));
     step(&mut core, &[BRANCH_TO_ITSELF], 0b000010);
@@ -242,14 +242,14 @@ fn watchdog() {
     for (wrc, halt) in [(0, 0), (1, 5), (2, 5), (3, 4)] {
         let mut core = core();
         core.msr |= msr::WE;
-        (core.tcr, core.iar) = (wp_2 | wrc << 28 | tcr::DS, 0x40);
+        (core.tcr, core.iar) = (wp_2 | wrc << 28 | tcr::DS_INPUT, 0x40);
         for (event, status) in [(timer_1, 0), (timer_2, tsr::ENW), (timer_2, tsr::ENW | tsr::WIS)] {
             assert_eq!((step(&mut core, &[], event), core.tsr), (Outcome::Waited, status));
         }
         let outcome = if wrc == 0 { Outcome::Waited } else { Outcome::WatchdogActed };
         assert_eq!(step(&mut core, &[], timer_2), outcome);
         assert_eq!((core.halt, core.iar), (halt, 0x40));
-        assert_eq!((core.tcr, core.tsr & tsr::WRS), (wp_2 | tcr::DS, wrc << 28));
+        assert_eq!((core.tcr, core.tsr & tsr::WRS), (wp_2 | tcr::DS_INPUT, wrc << 28));
     }
     let mut next_disabled = core();
     (next_disabled.tcr, next_disabled.tsr) = (tcr::WRC, tsr::WIS);
@@ -267,9 +267,9 @@ fn debug_control() {
         assert_eq!((end.halt, end.iar, end.dbcr), (halt, 4, dbcr::TRAP | dbcr::IACE | dbcr::DACE));
     }
     let mut start = core();
-    start.dbcr = dbcr::DEFINED;
+    start.dbcr = dbcr::defined(Ppe42);
     let end = after(start, &[mfspr(3, 308)]);
-    assert_eq!((end.gpr[3], end.dbcr), (dbcr::DEFINED & !dbcr::RST, dbcr::DEFINED));
+    assert_eq!((end.gpr[3], end.dbcr), (dbcr::defined(Ppe42) & !dbcr::RST, dbcr::defined(Ppe42)));
 }
 
 /// 8.10: writes to reserved, read-only and write-1-to-clear bits.
@@ -277,15 +277,15 @@ fn debug_control() {
 fn writes_of_all_ones() {
     let mut start = core();
     start.gpr[3] = u32::MAX;
-    (start.tsr, start.tcr) = (tsr::DEFINED, tcr::DS);
+    (start.tsr, start.tcr) = (tsr::DEFINED, tcr::DS_INPUT);
     let end =
         after(start.clone(), &[mtspr(1, 3), mtspr(26, 3), mtspr(27, 3), mtspr(336, 3), mtspr(62, 3), mtspr(340, 3)]);
     assert_eq!((end.xer, end.srr0, end.srr1), (xer::DEFINED, 0xFFFF_FFFC, msr::DEFINED));
-    assert_eq!((end.tsr, end.isr, end.tcr), (0, isr::DEFINED & !isr::EP, tcr::DEFINED));
+    assert_eq!((end.tsr, end.isr, end.tcr), (0, isr::DEFINED & !isr::EP, tcr::defined(Ppe42)));
     assert_eq!(after(start.clone(), &[mtspr(336, 4)]).tsr, tsr::DEFINED);
     let to_cr = x_form(3, 8, 0, 144, 0);
     assert_eq!(after(start, &[to_cr]).cr, cr::DEFINED);
-    assert!(!second::legal(mtspr(63, 3)) && second::legal(mfspr(3, 63)));
+    assert!(!second::legal(Ppe42, mtspr(63, 3)) && second::legal(Ppe42, mfspr(3, 63)));
 }
 
 /// 9.4.34 and the scope: dcbz clears its block, and outside memory tells the address as computed.
@@ -296,10 +296,10 @@ fn block_zero() {
     let mut memory = memory(&[dcbz, dcbz], 96);
     memory[32..].fill(0xFF);
     core.gpr[4] = 0x3D;
-    core.step(&mut memory, 0);
+    core.step(Ppe42, &mut memory, 0);
     assert_eq!((&memory[32..64], &memory[64..]), (&[0; 32][..], &[0xFF; 32][..]));
     core.gpr[4] = 0x7D;
-    core.step(&mut memory, 0);
+    core.step(Ppe42, &mut memory, 0);
     assert_eq!((core.iar, core.edr, core.isr), (0x060, 0x7D, isr::ST));
     for (extended, rt) in [(86, 3), (278, 31), (470, 0)] {
         let mut start = self::core();
@@ -312,7 +312,7 @@ fn block_zero() {
 #[test]
 fn fetch_outside() {
     let mut core = core();
-    core.run(&mut memory(&[0x4800_0200], 64), &[], 2);
+    core.run(Ppe42, &mut memory(&[0x4800_0200], 64), &[], 2);
     assert_eq!((core.iar, core.srr0, core.edr, core.isr), (0x080, 0x200, 0, 0));
 }
 
@@ -331,12 +331,12 @@ fn virtual_doubleword_words() {
         for (opcode, legal, kind) in cases {
             for displacement in [0, 0x7FFF, 0x8001] {
                 let word = Word(d_form(opcode, rt, ra, displacement));
-                assert_eq!(word.kind(), legal.then_some(kind), "{:08X}", word.0);
+                assert_eq!(word.kind(Ppe42), legal.then_some(kind), "{:08X}", word.0);
             }
         }
     }
     for (extended, rc) in [(17, 0), (17, 1), (145, 0), (145, 1)] {
-        assert!(!second::legal(x_form(28, 3, 4, extended, rc)), "lvdx and stvdx are left out");
+        assert!(!second::legal(Ppe42, x_form(28, 3, 4, extended, rc)), "lvdx and stvdx are left out");
     }
 }
 
@@ -353,14 +353,14 @@ struct Doubleword {
 
 /// r4 is the base; the other registers and the bytes after the word tell their own numbers. DEC stands still.
 fn doubleword(word: u32, base: u32) -> Doubleword {
-    let mut start = Core { tcr: tcr::DS, isr: isr::PTR, ..core() };
+    let mut start = Core { tcr: tcr::DS_INPUT, isr: isr::PTR, ..core() };
     for number in GPRS {
         start.gpr[number] = 0xA0B0_C000 + number as u32;
     }
     start.gpr[4] = base;
     let before: Vec<u8> = word.to_be_bytes().into_iter().chain(4..=(M - 1) as u8).collect();
     let (mut end, mut after) = (start.clone(), before.clone());
-    end.step(&mut after, 0);
+    end.step(Ppe42, &mut after, 0);
     Doubleword { start, before, end, after }
 }
 
@@ -444,7 +444,7 @@ fn the_last_virtual_doubleword() {
     let mut memory = memory(&[d_form(STVD, 0, 0, 24)], 32);
     let mut core = core();
     (core.gpr[0], core.gpr[1]) = (0x0123_4567, 0x89AB_CDEF);
-    core.step(&mut memory, 0);
+    core.step(Ppe42, &mut memory, 0);
     assert_eq!((core.iar, &memory[16..]), (4, &0x0123_4567_89AB_CDEF_u128.to_be_bytes()[..]));
 }
 
@@ -457,7 +457,7 @@ fn a_block_copied_by_doublewords() {
     let block = memory[64..96].to_vec();
     let mut core = core();
     (core.gpr[3], core.gpr[4]) = (64 - 8, 96 - 8);
-    assert_eq!(core.run(&mut memory, &[], 8), 8);
+    assert_eq!(core.run(Ppe42, &mut memory, &[], 8), 8);
     assert_eq!((&memory[64..96], &memory[96..]), (&block[..], &block[..]));
     assert_eq!((core.gpr[3], core.gpr[4], core.iar), (64 + 24, 96 + 24, 32));
     assert_eq!((core.gpr[28], core.gpr[29]), (0x191A_1B1C, 0x1D1E_1F20));

@@ -4,19 +4,19 @@ mod common;
 
 use common::*;
 use second::registers::{dbcr, msr, tcr, tsr};
-use second::Core;
+use second::{Core, Profile};
 
 /// Bytes of lent memory: enough for the vectors up to the external interrupt's.
 const M: u32 = 0xC0;
 
-type Run = fn(&mut [u8], &mut [u8], &[u8], u32) -> u64;
+type Run = fn(Profile, &mut [u8], &mut [u8], &[u8], u32) -> u64;
 
 const REACHED: u64 = 1 << 63;
 
 /// What a run answers and leaves.
 fn played(run: Run, core: &Core, memory: &[u8], events: &[u8], budget: u32) -> (u64, Vec<u8>, Vec<u8>) {
     let (mut state, mut memory) = (core.to_words().map(u32::to_be_bytes).concat(), memory.to_vec());
-    (run(&mut state, &mut memory, events, budget), state, memory)
+    (run(Ppe42, &mut state, &mut memory, events, budget), state, memory)
 }
 
 /// The steps of a run and whether it reached, once `run` is seen to leave the same and to answer it without the bit.
@@ -183,7 +183,7 @@ fn one_reach_is_a_reach_of_the_run() {
         assert_eq!(told(&start, &memory, &[], budget), (budget, true));
     }
     let (mut rest, mut lent) = (start, memory);
-    assert_eq!(rest.run_inside(&mut lent, &[], 9), (1, true));
+    assert_eq!(rest.run_inside(Ppe42, &mut lent, &[], 9), (1, true));
     assert_eq!(told(&rest, &lent, &[], 9), (9, false), "the same run gone on with after its reach");
 }
 
@@ -193,16 +193,16 @@ fn each_reach_ends_a_run_inside() {
     words[..3].copy_from_slice(&[NOP, NOP, d_form(36, 3, 0, M)]);
     words[0x60 / 4] = RFI;
     let (mut core, mut memory) = (core(), memory(&words, M as usize));
-    assert_eq!(core.run_inside(&mut memory, &[], 2), (2, false), "the budget is used before it");
-    assert_eq!(core.run_inside(&mut memory, &[], 0), (0, false));
-    assert_eq!(core.run_inside(&mut memory, &[], 1), (1, true), "with the last step");
+    assert_eq!(core.run_inside(Ppe42, &mut memory, &[], 2), (2, false), "the budget is used before it");
+    assert_eq!(core.run_inside(Ppe42, &mut memory, &[], 0), (0, false));
+    assert_eq!(core.run_inside(Ppe42, &mut memory, &[], 1), (1, true), "with the last step");
     for _ in 0..3 {
-        assert_eq!(core.run_inside(&mut memory, &[], 9), (2, true), "rfi, and the store again");
+        assert_eq!(core.run_inside(Ppe42, &mut memory, &[], 9), (2, true), "rfi, and the store again");
     }
     core.msr = 0;
     core.iar = 8;
-    assert_eq!(core.run_inside(&mut memory, &[], 9), (1, true), "the step that halts");
-    assert_eq!((core.halt, core.run_inside(&mut memory, &[], 9)), (1, (0, false)));
+    assert_eq!(core.run_inside(Ppe42, &mut memory, &[], 9), (1, true), "the step that halts");
+    assert_eq!((core.halt, core.run_inside(Ppe42, &mut memory, &[], 9)), (1, (0, false)));
 }
 
 #[test]
@@ -211,7 +211,7 @@ fn a_run_inside_uses_its_events_up_to_the_reach() {
     let mut start = core();
     start.msr |= msr::EE;
     let memory = memory(&words, M as usize);
-    let steps = |events: &[u8]| start.clone().run_inside(&mut memory.clone(), events, 2);
+    let steps = |events: &[u8]| start.clone().run_inside(Ppe42, &mut memory.clone(), events, 2);
     assert_eq!(steps(&[0, 0, 1]), (2, true));
     assert_eq!(steps(&[0, 1]), (2, false), "interrupted before the load");
 }
@@ -223,7 +223,7 @@ fn more_memory() {
     let larger = [memory.clone(), vec![0; 32]].concat();
     let after = |core: &Core, memory: &[u8]| {
         let (mut core, mut memory) = (core.clone(), memory.to_vec());
-        core.run(&mut memory, &[], 9);
+        core.run(Ppe42, &mut memory, &[], 9);
         (core, memory)
     };
     assert_eq!((told(&start, &memory, &[], 9), told(&start, &larger, &[], 9)), ((9, true), (9, false)));

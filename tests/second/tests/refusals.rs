@@ -3,7 +3,7 @@
 mod common;
 
 use common::*;
-use second::registers::{OTHERS, WORDS};
+use second::registers::{others, WORDS};
 use second::STATE;
 
 fn state(words: [u32; WORDS]) -> Vec<u8> {
@@ -25,11 +25,11 @@ fn refusal(state: &[u8], memory_length: usize, events: &[u8], budget: u32) -> u6
     let mut memory = memory(&[BRANCH_TO_ITSELF], memory_length.max(4));
     memory.truncate(memory_length);
     let before = memory.clone();
-    let answer = second::run(&mut after, &mut memory, events, budget);
+    let answer = second::run(Ppe42, &mut after, &mut memory, events, budget);
     assert!(answer >> 32 == 0 || (after == state && memory == before && answer as u32 == 0));
     for run in [second::run_reach, second::run_inside] {
         let (mut after_too, mut memory_too) = (state.to_vec(), before.clone());
-        assert_eq!(run(&mut after_too, &mut memory_too, events, budget), answer);
+        assert_eq!(run(Ppe42, &mut after_too, &mut memory_too, events, budget), answer);
         assert_eq!((&after_too, &memory_too), (&after, &memory));
     }
     asked_alike(state, &before, events.first().copied().unwrap_or(0));
@@ -38,11 +38,11 @@ fn refusal(state: &[u8], memory_length: usize, events: &[u8], budget: u32) -> u6
 
 /// `tell` is refused as `step` is, and `access` has none then.
 fn asked_alike(state: &[u8], memory: &[u8], event: u8) {
-    let refusal = second::step(&mut state.to_vec(), &mut memory.to_vec(), event) >> 32;
-    assert_eq!(second::tell(state, memory, event) >> 32, refusal);
+    let refusal = second::step(Ppe42, &mut state.to_vec(), &mut memory.to_vec(), event) >> 32;
+    assert_eq!(second::tell(Ppe42, state, memory, event) >> 32, refusal);
     if refusal != 0 {
-        assert_eq!(second::tell(state, memory, event), refusal << 32);
-        assert_eq!(second::access(state, memory, event), 0);
+        assert_eq!(second::tell(Ppe42, state, memory, event), refusal << 32);
+        assert_eq!(second::access(Ppe42, state, memory, event), 0);
     }
 }
 
@@ -62,7 +62,7 @@ fn registers() {
     for code in 0..=7 {
         assert_eq!(refusal(&with(HALT, code), 32, &[], 1), if code > 5 { 3 } else { 0 });
     }
-    for (i, (name, defined)) in OTHERS.into_iter().enumerate() {
+    for (i, (name, defined)) in others(Ppe42).into_iter().enumerate() {
         for bit in 0..32 {
             let value = 1 << bit;
             assert_eq!(refusal(&with(16 + i, value), 32, &[], 1), if defined & value == 0 { 3 } else { 0 }, "{name}");
@@ -77,7 +77,7 @@ fn defined_bits() {
         0xF000_0000, all, all, 0x318C_0000, all, all, 0x0000_F4CF, 0xFFFF_FE00, all, 0x7FFF_9DFF, 0x0000_FFFF, all,
         all, 0xFFFF_FFFC, 0x7FFF_9DFF, 0xFFC0_0000, 0xFC00_0000, 0xE000_0000,
     ];
-    assert_eq!(OTHERS.map(|(_, defined)| defined), defined);
+    assert_eq!(others(Ppe42).map(|(_, defined)| defined), defined);
 }
 
 #[test]
@@ -112,22 +112,22 @@ fn order() {
 fn no_steps() {
     let mut halted = with(HALT, 4);
     let mut memory = memory(&[BRANCH_TO_ITSELF], 32);
-    assert_eq!(second::run(&mut halted, &mut memory, &[63], 10), 0);
-    assert_eq!(second::step(&mut halted, &mut memory, 63), 0);
+    assert_eq!(second::run(Ppe42, &mut halted, &mut memory, &[63], 10), 0);
+    assert_eq!(second::step(Ppe42, &mut halted, &mut memory, 63), 0);
     assert_eq!(halted, with(HALT, 4));
-    assert_eq!(second::step(&mut halted, &mut memory, 64), 5 << 32);
+    assert_eq!(second::step(Ppe42, &mut halted, &mut memory, 64), 5 << 32);
     asked_alike(&halted, &memory, 64);
     let mut running = with(0, 0);
-    assert_eq!(second::run(&mut running, &mut memory, &[63], 0), 0);
+    assert_eq!(second::run(Ppe42, &mut running, &mut memory, &[63], 0), 0);
     assert_eq!(running, with(0, 0));
-    assert_eq!(second::step(&mut running, &mut memory, 0), 1);
+    assert_eq!(second::step(Ppe42, &mut running, &mut memory, 0), 1);
 }
 
 #[test]
 fn the_halting_step_counts() {
     let mut state = with(0, 0);
     let mut memory = memory(&[0x6000_0000, ILLEGAL], 32);
-    assert_eq!(second::run(&mut state, &mut memory, &[], 10), 2);
+    assert_eq!(second::run(Ppe42, &mut state, &mut memory, &[], 10), 2);
     assert_eq!(state[4 * HALT + 3], 1);
 }
 
@@ -136,27 +136,27 @@ fn captures() {
     let state = with(3, 0x0102_0304);
     let memory = memory(&[BRANCH_TO_ITSELF], 64);
     let mut out = vec![0xEE; 64 + 156 + 5];
-    assert_eq!(second::capture_write(&state, &memory, &mut out), 64 + 156);
+    assert_eq!(second::capture_write(Ppe42, &state, &memory, &mut out), 64 + 156);
     assert_eq!(out[64 + 156..], [0xEE; 5]);
     let file = &out[..64 + 156];
     assert_eq!((&file[..64], &file[64..208]), (&memory[..], &state[..]));
     assert_eq!(file[208..], [0, 0, 0, 156, 0, 0, 0, 64, 0, 0, 0, 1]);
-    assert_eq!(second::capture_check(file), 64);
+    assert_eq!(second::capture_check(Ppe42, file), 64);
     for (place, number) in [(211, 7), (215, 7), (219, 7), (64 + 4 * IAR + 3, 2), (64 + 4 * HALT + 3, 3)] {
         let mut spoilt = file.to_vec();
         spoilt[place] = spoilt[place].wrapping_add(9);
-        assert_eq!(second::capture_check(&spoilt), number << 32, "{place}");
+        assert_eq!(second::capture_check(Ppe42, &spoilt), number << 32, "{place}");
     }
     let other = [&[9], &file[1..]].concat();
-    assert_eq!(second::capture_check(&other), 64, "any byte of memory");
-    assert_eq!(second::capture_check(&file[1..]), 7 << 32);
-    assert_eq!(second::capture_check(&[]), 7 << 32);
+    assert_eq!(second::capture_check(Ppe42, &other), 64, "any byte of memory");
+    assert_eq!(second::capture_check(Ppe42, &file[1..]), 7 << 32);
+    assert_eq!(second::capture_check(Ppe42, &[]), 7 << 32);
     let mut short = vec![0xEE; 64 + 155];
-    assert_eq!(second::capture_write(&state, &memory, &mut short), 8 << 32);
-    assert_eq!(second::capture_write(&state, &memory[..33], &mut short), 1 << 32);
-    assert_eq!(second::capture_write(&state[..STATE - 4], &memory, &mut short), 7 << 32);
-    assert_eq!(second::capture_write(&with(IAR, 2), &memory, &mut short), 2 << 32);
-    assert_eq!(second::capture_write(&with(HALT, 9), &memory, &mut short), 3 << 32);
+    assert_eq!(second::capture_write(Ppe42, &state, &memory, &mut short), 8 << 32);
+    assert_eq!(second::capture_write(Ppe42, &state, &memory[..33], &mut short), 1 << 32);
+    assert_eq!(second::capture_write(Ppe42, &state[..STATE - 4], &memory, &mut short), 7 << 32);
+    assert_eq!(second::capture_write(Ppe42, &with(IAR, 2), &memory, &mut short), 2 << 32);
+    assert_eq!(second::capture_write(Ppe42, &with(HALT, 9), &memory, &mut short), 3 << 32);
     assert_eq!(short, [0xEE; 64 + 155]);
 }
 
@@ -168,6 +168,6 @@ fn captures_of_other_sizes() {
         for (i, word) in [156, length as u32, 1].into_iter().enumerate() {
             file[trailer + 4 * i..][..4].copy_from_slice(&word.to_be_bytes());
         }
-        assert_eq!(second::capture_check(&file), answer);
+        assert_eq!(second::capture_check(Ppe42, &file), answer);
     }
 }

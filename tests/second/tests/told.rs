@@ -26,7 +26,7 @@ const TRAPPED: u64 = 12;
 /// What is told and accessed at IAR 0, where the word stands.
 fn asked(core: &Core, word: u32, event: u8) -> (u64, u64) {
     let (state, memory) = (core.to_words().map(u32::to_be_bytes).concat(), memory(&[word], M as usize));
-    (second::tell(&state, &memory, event), second::access(&state, &memory, event))
+    (second::tell(Ppe42, &state, &memory, event), second::access(Ppe42, &state, &memory, event))
 }
 
 fn told(core: &Core, word: u32, event: u8) -> u64 {
@@ -113,9 +113,9 @@ fn access_shows(word: u32, address: u32, expected: Access) {
     let mut start = core();
     (start.gpr[5], start.gpr[6], start.gpr[4]) = (0x1122_3344, 0x5566_7788, address);
     let before = [word.to_be_bytes().to_vec(), vec![0xEE; M as usize - 4]].concat();
-    assert_eq!(start.access(&before, 0), Some(expected), "{word:08X} at {address:X}");
+    assert_eq!(start.access(Ppe42, &before, 0), Some(expected), "{word:08X} at {address:X}");
     let (mut end, mut after) = (start.clone(), before.clone());
-    match end.step(&mut after, 0).told() as u64 {
+    match end.step(Ppe42, &mut after, 0).told() as u64 {
         EXECUTES if expected.writes => {
             let changed: Vec<u32> = (0..M).filter(|i| after[*i as usize] != before[*i as usize]).collect();
             let written: Vec<u32> = (expected.address..expected.address + expected.bytes).collect();

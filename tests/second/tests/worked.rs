@@ -99,7 +99,7 @@ fn halfword_products() {
 fn words() {
     let cases = [(0x3860_0005, Kind::Addi), (0xA064_0000, Kind::Lhz), (0x7C64_0734, Kind::Extsh), (TRAP, Kind::Tw)];
     for (word, kind) in cases {
-        assert_eq!(Word(word).kind(), Some(kind));
+        assert_eq!(Word(word).kind(Ppe42), Some(kind));
     }
     assert_eq!(after(core(), &[0x3860_0005]).gpr[3], 5);
     let lhz = Word(0xA064_0000);
@@ -111,11 +111,11 @@ fn words() {
 #[test]
 fn illegal_words() {
     let lhzu = 41;
-    assert!(second::legal(d_form(lhzu, 3, 4, 2)));
-    assert!(!second::legal(d_form(lhzu, 4, 4, 2)), "RA = RT");
-    assert!(!second::legal(d_form(lhzu, 3, 0, 2)), "RA = 0");
-    assert!(!second::legal(d_form(40, 11, 4, 0)), "lhz into r11");
-    assert!(second::legal(d_form(45, 4, 4, 2)), "sthu with RS = RA");
+    assert!(second::legal(Ppe42, d_form(lhzu, 3, 4, 2)));
+    assert!(!second::legal(Ppe42, d_form(lhzu, 4, 4, 2)), "RA = RT");
+    assert!(!second::legal(Ppe42, d_form(lhzu, 3, 0, 2)), "RA = 0");
+    assert!(!second::legal(Ppe42, d_form(40, 11, 4, 0)), "lhz into r11");
+    assert!(second::legal(Ppe42, d_form(45, 4, 4, 2)), "sthu with RS = RA");
 }
 
 #[test]
@@ -125,7 +125,7 @@ fn the_last_word_of_memory() {
     let run = |word, last| {
         let mut memory = memory(&[word, 0, 0, 0, 0, 0, 0, last], 32);
         let mut core = core();
-        core.run(&mut memory, &[], 1);
+        core.run(Ppe42, &mut memory, &[], 1);
         core
     };
     let loaded = run(lwz(28), 0x0123_4567);
@@ -146,7 +146,7 @@ fn the_last_word_of_memory() {
 fn a_branch_to_itself_uses_its_budget() {
     let mut memory = memory(&[BRANCH_TO_ITSELF], 32);
     let mut state = [0; second::STATE];
-    assert_eq!(second::run(&mut state, &mut memory, &[], 1000), 1000);
+    assert_eq!(second::run(Ppe42, &mut state, &mut memory, &[], 1000), 1000);
     assert_eq!(state[136..], [0; 8]);
 }
 
@@ -173,7 +173,7 @@ fn spr_halves_are_swapped() {
     let mut start = core();
     start.sprg0 = 0xCAFE_F00D;
     assert_eq!(after(start, &[0x7C70_42A6]).gpr[3], 0xCAFE_F00D);
-    assert!(second::legal(mfspr(3, 272)) && !second::legal(x_form(3, 272 >> 5, 272 & 31, 339, 0)));
+    assert!(second::legal(Ppe42, mfspr(3, 272)) && !second::legal(Ppe42, x_form(3, 272 >> 5, 272 & 31, 339, 0)));
 }
 
 #[test]
@@ -191,6 +191,6 @@ fn an_update_store_of_its_base_stores_the_old_value() {
     let mut start = core();
     start.gpr[4] = 0x40;
     let mut memory = memory(&[d_form(37, 4, 4, 4)], 128);
-    start.run(&mut memory, &[], 1);
+    start.run(Ppe42, &mut memory, &[], 1);
     assert_eq!((start.gpr[4], &memory[0x44..0x48]), (0x44, &[0, 0, 0, 0x40][..]));
 }

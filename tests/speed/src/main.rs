@@ -1,6 +1,7 @@
 //! `speed [RUNS]`: steps a second of the linked library (`core`; `inside`, which ends with the first step that reaches past its
-//! memory; `reach`, which tells whether one did), of the plain interpreter `second` and of Unicorn where it is built in, on the
-//! same loops, and how many times as fast as `second` the others are. Each figure is the best of RUNS runs.
+//! memory; `reach`, which tells whether one did; `42X`, which is `core` as a 42X), of the plain interpreter `second` and of Unicorn
+//! where it is built in, on the same loops, and how many times as fast as `second` the others are. Each figure is the best of RUNS
+//! runs.
 //!
 //! `speed PROGRAM STEPS RUNS`: the everyday bench, run as a user does, beside runs of the library one after the other.
 
@@ -34,11 +35,13 @@ fn main() {
         "core steps/s",
         "inside steps/s",
         "reach steps/s",
+        "42X steps/s",
         "second steps/s",
         "Unicorn steps/s",
         "core/second",
         "inside/second",
         "reach/second",
+        "42X/second",
         "Unicorn/second",
     ];
     show(heads.map(String::from));
@@ -55,7 +58,8 @@ fn main() {
 
 fn measure(each: &Loop, size: usize, steps: u32, runs: u32) {
     let best = best(each, size, steps, runs);
-    let (core, inside, reach, second, unicorn) = (&best[0], &best[1], &best[2], &best[3], best.get(4));
+    let [core, inside, reach, of_42x, second, unicorn @ ..] = &best[..] else { unreachable!("five play every loop") };
+    let unicorn = unicorn.first();
     let rate = |seconds: &f64| format!("{:.0}", f64::from(steps) / seconds);
     let ratio = |seconds: &f64| format!("{:.2}", second / seconds);
     let none = || "-".to_string();
@@ -66,11 +70,13 @@ fn measure(each: &Loop, size: usize, steps: u32, runs: u32) {
         rate(core),
         rate(inside),
         rate(reach),
+        rate(of_42x),
         rate(second),
         unicorn.map_or_else(none, rate),
         ratio(core),
         ratio(inside),
         ratio(reach),
+        ratio(of_42x),
         unicorn.map_or_else(none, ratio),
     ]);
 }
@@ -91,8 +97,8 @@ fn best(each: &Loop, size: usize, steps: u32, runs: u32) -> Vec<f64> {
     best
 }
 
-fn show(cells: [String; 12]) {
-    const WIDTHS: [usize; 11] = [7, 6, 12, 14, 13, 14, 15, 11, 13, 12, 14];
+fn show(cells: [String; 14]) {
+    const WIDTHS: [usize; 13] = [7, 6, 12, 14, 13, 11, 14, 15, 11, 13, 12, 10, 14];
     let [name, rest @ ..] = cells;
     let rest: Vec<_> = rest.iter().zip(WIDTHS).map(|(cell, width)| format!("{cell:>width$}")).collect();
     println!("{name:10} {}", rest.join(" "));

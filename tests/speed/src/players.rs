@@ -1,7 +1,8 @@
 //! Those that play a loop: the linked library, `second`, and Unicorn where it is built in.
 
 use crate::loops::State;
-use linked::LINKED;
+use linked::{LINKED, LINKED_42X};
+use second::Profile::Ppe42;
 use std::time::Instant;
 
 /// Where a state has TCR.
@@ -11,13 +12,16 @@ const TCR: usize = 4 * 31;
 pub type Player = fn(&mut State, u32) -> f64;
 
 /// How many play all that the PPE 42 has; they come first.
-pub const OURS: usize = 4;
+pub const OURS: usize = 5;
 
 pub const PLAYERS: &[Player] = &[
     |state, steps| play(LINKED.run, state, steps),
     |state, steps| play(LINKED.run_inside, state, steps),
     |state, steps| play(LINKED.run_reach, state, steps),
-    |state, steps| play(second::run, state, steps),
+    |state, steps| play(LINKED_42X.run, state, steps),
+    |state, steps| {
+        play(|state, memory, events, budget| second::run(Ppe42, state, memory, events, budget), state, steps)
+    },
     #[cfg(feature = "unicorn")]
     emulate,
 ];

@@ -1,7 +1,8 @@
 //! A case: a word, and the registers before it. Data lies in the first half of memory, code in the second.
 
+use crate::profile;
 use draw::{Form, Urn, FORMS, REGISTERS};
-use linked::LINKED;
+use linked::{Step, LINKED, LINKED_42X};
 use std::fmt;
 
 pub const MEMORY: usize = 8192;
@@ -20,14 +21,16 @@ const XER: usize = 33;
 const IAR: usize = 34;
 const WORDS: usize = 36;
 
-/// Left out: what is the PPE 42's own or looks at a state that the 405 does not share.
-const LEFT_OUT: [&str; 11] = [
+/// Left out: what is the PPE 42's own or looks at a state that the 405 does not share; and what a 42X alone has, which is drawn
+/// apart.
+const LEFT_OUT: [&str; 18] = [
     "mfmsr", "mtmsr", // the two MSRs share few fields
     "rfi",   // it restores such an MSR
     "wrtee", "wrteei", // MSR[EE] is seen through mfmsr alone
     "tw",     // trap enters the 405's own vector; other TO are illegal here
     "dcbi",   // privileged; it changes no byte here
     "lvd", "lvdu", "stvd", "stvdu", // the 405 has no virtual doublewords
+    "mulli", "mullw", "rldicl", "rldicr", "rldimi", "lsku", "stsku", // of the 42X
 ];
 
 /// SPRs that both cores have with the same meaning: XER, LR, CTR.
@@ -50,6 +53,8 @@ pub struct Case {
     pub mnemonic: &'static str,
     pub word: u32,
     pub before: Side,
+    /// The core of the library that plays it.
+    step: Step,
     /// It accesses a halfword or word that is not aligned.
     pub unaligned: bool,
 }
@@ -62,12 +67,32 @@ impl Case {
                 break form;
             }
         };
-        let mut case =
-            Case { mnemonic: form.mnemonic, word: draw_word(form, urn), before: Side::draw(urn), unaligned: false };
+        let mut case = Case::of(form.mnemonic, draw_word(form, urn), Side::draw(urn), LINKED.step);
         if let Some(size) = case.access() {
             case.unaligned = !case.aim(urn, size).is_multiple_of(size);
         }
         case
+    }
+
+    /// A multiplication of the 42X, which the 405 has too.
+    pub fn draw_multiplication(urn: &mut Urn) -> Case {
+        let (mnemonic, word) = profile::draw_multiplication(urn);
+        Case::of(mnemonic, word, Side::draw(urn), LINKED_42X.step)
+    }
+
+    /// A rotation of two pairs, on the 42X.
+    pub fn draw_rotation(urn: &mut Urn) -> Case {
+        let (mnemonic, word) = profile::draw_rotation(urn);
+        Case::of(mnemonic, word, Side::draw(urn), LINKED_42X.step)
+    }
+
+    fn of(mnemonic: &'static str, word: u32, before: Side, step: Step) -> Case {
+        Case { mnemonic, word, before, step, unaligned: false }
+    }
+
+    /// The same word with other registers.
+    pub fn with_registers(&self, before: Side) -> Case {
+        Case::of(self.mnemonic, self.word, before, self.step)
     }
 
     /// How many bytes the instruction works on at its address; caches work on any.
@@ -116,15 +141,21 @@ impl Case {
         self.before.gpr[place(register)]
     }
 
-    /// Writes the word where the case starts.
-    pub fn place(&self, memory: &mut [u8; MEMORY]) {
-        memory[self.before.iar as usize..][..4].copy_from_slice(&self.word.to_be_bytes());
+    /// Writes the word where the case starts, and gives what stood there.
+    pub fn place(&self, memory: &mut [u8; MEMORY]) -> [u8; 4] {
+        let stood = memory[self.before.iar as usize..][..4].try_into().expect("four bytes");
+        self.put_back(memory, self.word.to_be_bytes());
+        stood
+    }
+
+    pub fn put_back(&self, memory: &mut [u8; MEMORY], bytes: [u8; 4]) {
+        memory[self.before.iar as usize..][..4].copy_from_slice(&bytes);
     }
 
     /// The registers after one step of the library.
     pub fn run_library(&self, memory: &mut [u8; MEMORY]) -> Side {
         let mut state = self.before.to_state();
-        let answer = (LINKED.step)(&mut state, memory, 0);
+        let answer = (self.step)(&mut state, memory, 0);
         let mut after = Side::from_state(&state);
         after.trouble = (answer != 1).then(|| format!("answer {answer:#x}"));
         after
@@ -146,7 +177,17 @@ fn place(register: u32) -> usize {
 }
 
 impl Side {
-    fn draw(urn: &mut Urn) -> Side {
+    /// The two words of the pair that a register begins, the first one the high-order one.
+    pub fn pair(&self, first: u32) -> u64 {
+        u64::from(self.gpr[place(first)]) << 32 | u64::from(self.gpr[place((first + 1) % 32)])
+    }
+
+    pub fn set_pair(&mut self, first: u32, value: u64) {
+        self.gpr[place(first)] = (value >> 32) as u32;
+        self.gpr[place((first + 1) % 32)] = value as u32;
+    }
+
+    pub fn draw(urn: &mut Urn) -> Side {
         Side {
             gpr: std::array::from_fn(|_| urn.value()),
             cr: urn.some_of(0xF000_0000),

@@ -1,9 +1,10 @@
 //! What the tests share: a zeroed core, words by their fields, and short runs.
 
-#![allow(dead_code)]
+#![allow(dead_code, unused_imports)]
 
 use second::registers::{msr, WORDS};
 use second::Core;
+pub use second::Profile::{Ppe42, Ppe42x};
 
 /// All zero but MSR[UIE, ME], so that nothing is promoted.
 pub fn core() -> Core {
@@ -26,7 +27,7 @@ pub fn memory(words: &[u32], length: usize) -> Vec<u8> {
 /// The core after the words, one step each, from address 0 in 512 bytes of memory.
 pub fn after(mut core: Core, words: &[u32]) -> Core {
     let mut memory = memory(words, 512);
-    assert_eq!(core.run(&mut memory, &[], words.len() as u32), words.len() as u32);
+    assert_eq!(core.run(Ppe42, &mut memory, &[], words.len() as u32), words.len() as u32);
     core
 }
 
