@@ -3,8 +3,8 @@
 use clap::{Args, Parser, Subcommand};
 use std::path::PathBuf;
 
-/// The everyday bench: captures of a PPE 42 core made, shown, listed, run, traced, compared and written as S-records, and
-/// lines assembled, by the proved library.
+/// The everyday bench: captures of a PPE 42 core, or with --42x of a PPE 42X, made, shown, listed, run, traced, compared and
+/// written as S-records, and lines assembled, by the proved library.
 ///
 /// Steps are numbered from 0. Addresses and words are in hex, sizes and counts decimal (K, M and G are thousands). Exit
 /// status: 0 all is well; 1 not as expected, a difference, words that the core lacks, or a line that asm refused; 2 the
@@ -14,6 +14,9 @@ use std::path::PathBuf;
 pub struct Command {
     #[command(subcommand)]
     pub what: What,
+    /// The core is a PPE 42X; a capture does not tell
+    #[arg(long = "42x", global = true)]
+    pub is_42x: bool,
 }
 
 #[derive(Subcommand)]

@@ -3,7 +3,8 @@
 use crate::args::Asm;
 use crate::excerpt;
 use crate::files;
-use crate::library::{self, Refused};
+use crate::library::Refused;
+use crate::profile::Profile;
 use crate::wanted;
 use crate::{complain, say};
 use std::io::{self, BufRead, BufReader, IsTerminal, Read};
@@ -16,7 +17,7 @@ const KEPT: usize = 65_536;
 const WHAT: &str = "a file of lines";
 
 /// Status 1 if a line was refused.
-pub fn asm(args: &Asm) -> Result<ExitCode, String> {
+pub fn asm(profile: Profile, args: &Asm) -> Result<ExitCode, String> {
     let file = args.file.as_deref().filter(|file| *file != Path::new("-"));
     let mut input = open(file)?;
     let source = file.map_or(String::new(), |file| format!("{}, ", file.display()));
@@ -30,7 +31,7 @@ pub fn asm(args: &Asm) -> Result<ExitCode, String> {
         if is_blank(line) {
             continue;
         }
-        match library::assemble(line) {
+        match profile.assemble(line) {
             Ok(word) => {
                 // where nobody reads on, an endless input would be read for nothing
                 if !say!("{word:08X}") {
@@ -39,7 +40,7 @@ pub fn asm(args: &Asm) -> Result<ExitCode, String> {
             }
             Err(refused) => {
                 status = ExitCode::from(1);
-                complain!("{source}line {number}, {}", shown(line, refused));
+                complain!("{source}line {number}, {}", shown(profile, line, refused));
             }
         }
     }
@@ -89,8 +90,8 @@ fn is_blank(line: &[u8]) -> bool {
 }
 
 /// Column, number, what is wrong, and the line with a caret under the column.
-fn shown(line: &[u8], refused: Refused) -> String {
+fn shown(profile: Profile, line: &[u8], refused: Refused) -> String {
     let (column, number) = (refused.column, refused.refusal);
-    let why = wanted::sentence(line, refused);
+    let why = wanted::sentence(profile, line, refused);
     format!("column {column}: refusal {number}: {why}\n{}", excerpt::pointed(line, column))
 }

@@ -1,35 +1,45 @@
-//! A capture: memory and state of a core, read from a file and written to one.
+//! A capture: memory and state of a core, read from a file and written to one. The file does not tell which core; whoever reads
+//! it does.
 
 use crate::files;
-use crate::library::{self, MOST, STATE, TRAILER};
+use crate::library::{MOST, STATE, TRAILER};
 use crate::numbers;
+use crate::profile::Profile;
 use crate::refusals;
 use crate::registers::{self, State};
 use std::path::Path;
 
 #[derive(Clone)]
 pub struct Capture {
+    pub profile: Profile,
     pub state: State,
     pub memory: Vec<u8>,
 }
 
 impl Capture {
-    pub fn read(path: &Path) -> Result<Capture, String> {
+    pub fn read(profile: Profile, path: &Path) -> Result<Capture, String> {
         let file = files::read(path, MOST + TRAILER, "a capture")?;
-        Capture::of(&file).map_err(|wrong| format!("{}: {wrong}", path.display()))
+        Capture::of(profile, &file).map_err(|wrong| format!("{}: {wrong}", path.display()))
     }
 
     /// The capture that a file is.
-    pub fn of(file: &[u8]) -> Result<Capture, String> {
-        let length = library::capture_check(file).map_err(|refusal| refusals::of_capture(refusal, file))?;
+    pub fn of(profile: Profile, file: &[u8]) -> Result<Capture, String> {
+        let length = profile.capture_check(file).map_err(|refusal| refusals::of_capture(refusal, profile, file))?;
         let mut state = State::zero();
         state.0.copy_from_slice(&file[length..length + STATE]);
-        Ok(Capture { state, memory: file[..length].to_vec() })
+        Ok(Capture { profile, state, memory: file[..length].to_vec() })
+    }
+
+    /// The first profile that takes a file as its capture.
+    pub fn profile_of(file: &[u8]) -> Option<Profile> {
+        Profile::BOTH.into_iter().find(|profile| profile.capture_check(file).is_ok())
     }
 
     pub fn write(&self, path: &Path) -> Result<(), String> {
-        let file = library::capture_write(&self.state, &self.memory)
-            .map_err(|refusal| refusals::of_start(refusal, &self.state, self.memory.len()))?;
+        let file = self
+            .profile
+            .capture_write(&self.state, &self.memory)
+            .map_err(|refusal| refusals::of_start(refusal, self))?;
         files::write(path, &file)
     }
 
@@ -43,8 +53,7 @@ impl Capture {
             let word = numbers::word(value).map_err(|wrong| format!("--set {setting}: {wrong}"))?;
             self.state.put(place, word);
         }
-        library::start_check(&self.state, &self.memory)
-            .map_err(|refusal| refusals::of_start(refusal, &self.state, self.memory.len()))
+        self.profile.start_check(&self.state, &self.memory).map_err(|refusal| refusals::of_start(refusal, self))
     }
 
     /// The four bytes at an address, if memory has them.

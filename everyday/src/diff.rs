@@ -3,14 +3,15 @@
 use crate::args::Diff;
 use crate::capture::Capture;
 use crate::changes;
+use crate::profile::Profile;
 use crate::registers;
 use crate::say;
 use std::process::ExitCode;
 
 /// Status 0 if nothing differs, 1 if something does.
-pub fn diff(args: &Diff) -> Result<ExitCode, String> {
-    let old = Capture::read(&args.before)?;
-    let new = Capture::read(&args.after)?;
+pub fn diff(profile: Profile, args: &Diff) -> Result<ExitCode, String> {
+    let old = Capture::read(profile, &args.before)?;
+    let new = Capture::read(profile, &args.after)?;
     let lines = changes::lines(&old.memory, &new.memory);
     let same_length = old.memory.len() == new.memory.len();
     let places = registers::changed(&old.state, &new.state);

@@ -1,6 +1,8 @@
 //! Firmware into memory: an ELF for 32-bit PowerPC, S-records, or a raw binary that begins at address 0.
 
+use crate::capture::Capture;
 use crate::library::{self, BLOCK, MOST};
+use crate::profile::Profile;
 use crate::srecords;
 use crate::symbols::{readable, Symbol, Symbols};
 use object::elf::{
@@ -35,8 +37,10 @@ pub fn is_elf(file: &[u8]) -> bool {
 /// The firmware that a file of this name is.
 pub fn load(name: &str, file: &[u8], lent: usize) -> Result<Firmware, String> {
     let of_file = |wrong: String| format!("{name}: {wrong}");
-    if library::capture_check(file).is_ok() {
-        return Err(of_file("it is a capture already; ./ppe42 run plays it, with --set for other registers".into()));
+    if let Some(profile) = Capture::profile_of(file) {
+        let option = if profile == Profile::Ppe42 { "" } else { " --42x" };
+        let plays = format!("./ppe42 run{option} plays it, with --set for other registers");
+        return Err(of_file(format!("it is a capture already; {plays}")));
     }
     if is_elf(file) {
         load_elf(file, lent).map_err(of_file)
@@ -245,7 +249,7 @@ pub struct Lacking {
 
 /// How many words the code has, and which of them the core lacks. Zero words from the end of a function up to the next label
 /// or the section's end are fill, and neither counted nor named.
-pub fn lacking(code: &[(u32, Vec<u32>)], symbols: &Symbols) -> (usize, Vec<Lacking>) {
+pub fn lacking(profile: Profile, code: &[(u32, Vec<u32>)], symbols: &Symbols) -> (usize, Vec<Lacking>) {
     let mut counted = 0;
     let mut found = Vec::new();
     for (start, words) in code {
@@ -265,7 +269,7 @@ pub fn lacking(code: &[(u32, Vec<u32>)], symbols: &Symbols) -> (usize, Vec<Lacki
             }
             counted += zeros.len() + 1;
             found.append(&mut zeros);
-            if !library::legal(word) {
+            if !profile.legal(word) {
                 found.push(Lacking { address, word });
             }
         }

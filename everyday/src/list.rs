@@ -4,9 +4,10 @@ use crate::args::List;
 use crate::capture::Capture;
 use crate::files::{self, MOST_FIRMWARE};
 use crate::firmware;
-use crate::library::{self, Line, MOST};
+use crate::library::{Line, MOST};
 use crate::load;
 use crate::numbers::grouped;
+use crate::profile::Profile;
 use crate::registers;
 use crate::say;
 use crate::symbols::Symbols;
@@ -19,6 +20,7 @@ pub const WIDTH: usize = 20;
 const FOLDED: usize = 4;
 
 struct Listed {
+    profile: Profile,
     memory: Vec<u8>,
     /// From where up to where there is something, in order.
     parts: Vec<(usize, usize)>,
@@ -27,8 +29,8 @@ struct Listed {
     what: &'static str,
 }
 
-pub fn list(args: &List) -> Result<ExitCode, String> {
-    let listed = read(args)?;
+pub fn list(profile: Profile, args: &List) -> Result<ExitCode, String> {
+    let listed = read(profile, args)?;
     let mut parts = listed.parts.clone();
     if let Some(text) = &args.range {
         parts = within(text, &listed).map_err(|wrong| format!("{text}: {wrong}"))?;
@@ -47,20 +49,21 @@ pub fn list(args: &List) -> Result<ExitCode, String> {
 }
 
 /// A capture, or an ELF as `make` reads it.
-fn read(args: &List) -> Result<Listed, String> {
+fn read(profile: Profile, args: &List) -> Result<Listed, String> {
     let file = files::read(&args.file, MOST_FIRMWARE, "a capture or an ELF")?;
     let wrong = |wrong: String| format!("{}: {wrong}", args.file.display());
-    if firmware::is_elf(&file) && library::capture_check(&file).is_err() {
+    if firmware::is_elf(&file) && Capture::profile_of(&file).is_none() {
         if args.elf.is_some() {
             return Err(wrong("it is an ELF and has symbols of its own; leave out --elf".into()));
         }
-        return read_elf(&file).map_err(wrong);
+        return read_elf(profile, &file).map_err(wrong);
     }
-    let memory = Capture::of(&file).map_err(wrong)?.memory;
-    Ok(Listed { parts: vec![(0, memory.len())], memory, symbols: load::symbols(&args.elf)?, what: "the memory" })
+    let memory = Capture::of(profile, &file).map_err(wrong)?.memory;
+    let (parts, symbols) = (vec![(0, memory.len())], load::symbols(&args.elf)?);
+    Ok(Listed { profile, memory, parts, symbols, what: "the memory" })
 }
 
-fn read_elf(file: &[u8]) -> Result<Listed, String> {
+fn read_elf(profile: Profile, file: &[u8]) -> Result<Listed, String> {
     let firmware = firmware::load_elf(file, MOST)?;
     let mut spans = firmware::parts(file)?;
     spans.sort_unstable();
@@ -72,7 +75,7 @@ fn read_elf(file: &[u8]) -> Result<Listed, String> {
             _ => parts.push((from, to)),
         }
     }
-    Ok(Listed { memory: firmware.memory, parts, symbols: firmware.symbols, what: "what is loaded" })
+    Ok(Listed { profile, memory: firmware.memory, parts, symbols: firmware.symbols, what: "what is loaded" })
 }
 
 fn whole_words(from: usize, to: usize) -> (usize, usize) {
@@ -103,7 +106,7 @@ fn part(listed: &Listed, from: usize, to: usize) -> bool {
         let zeros = zeros(listed, at, to);
         let (line, words) = match zeros {
             FOLDED.. => (folded(at, zeros), zeros),
-            _ => (line(&listed.symbols, at as u32, word_at(&listed.memory, at)), 1),
+            _ => (line(listed, at as u32, word_at(&listed.memory, at)), 1),
         };
         if !labels.iter().chain([&line]).all(|line| say!("{line}")) {
             return false;
@@ -137,31 +140,33 @@ fn folded(at: usize, zeros: usize) -> String {
 }
 
 /// Address, word, instruction, and what more there is to say.
-fn line(symbols: &Symbols, at: u32, word: u32) -> String {
-    let line = format!("{at:08X}  {word:08X}  {:<WIDTH$}", instruction(word));
-    match remark(symbols, at, word) {
+fn line(listed: &Listed, at: u32, word: u32) -> String {
+    let line = format!("{at:08X}  {word:08X}  {:<WIDTH$}", instruction(listed.profile, word));
+    match remark(listed, at, word) {
         Some(remark) => format!("{line}  # {remark}"),
         None => line.trim_end().into(),
     }
 }
 
 /// The line of a word. What is written for an illegal word is a line of no assembly.
-pub fn instruction(word: u32) -> String {
-    library::disassemble(word).map_or(format!(".word 0x{word:08X}"), |line| line.text)
+pub fn instruction(profile: Profile, word: u32) -> String {
+    profile.disassemble(word).map_or(format!(".word 0x{word:08X}"), |line| line.text)
 }
 
-fn remark(symbols: &Symbols, at: u32, word: u32) -> Option<String> {
-    let Some(Line { text, .. }) = library::disassemble(word) else { return Some("illegal".into()) };
-    let parts = [target(&text, at).map(|to| symbols.place(to)), spr(&text).map(String::from), unwritten(word)];
+fn remark(Listed { profile, symbols, .. }: &Listed, at: u32, word: u32) -> Option<String> {
+    let Some(Line { text, .. }) = profile.disassemble(word) else { return Some("illegal".into()) };
+    let parts =
+        [target(&text, at).map(|to| symbols.place(to)), spr(&text).map(String::from), unwritten(*profile, word)];
     let parts: Vec<String> = parts.into_iter().flatten().collect();
     (!parts.is_empty()).then(|| parts.join("; "))
 }
 
-/// That a word has more than its line.
-pub fn unwritten(word: u32) -> Option<String> {
-    let line = library::disassemble(word).filter(|line| line.more)?;
-    let alone = library::assemble(line.text.as_bytes()).ok()?;
-    Some(format!("with a field that no line writes: the line alone is {alone:08X}"))
+/// That a word has more than its line, which alone is another word or, as of a 42X's tw with TG and any registers, none.
+pub fn unwritten(profile: Profile, word: u32) -> Option<String> {
+    let line = profile.disassemble(word).filter(|line| line.more)?;
+    let alone = profile.assemble(line.text.as_bytes());
+    let alone = alone.map_or("no instruction".into(), |word| format!("{word:08X}"));
+    Some(format!("with a field that no line writes: the line alone is {alone}"))
 }
 
 /// Where a branch leads: from its own address on, or with an a in its name from 0 on.
@@ -192,19 +197,19 @@ mod tests {
     use crate::registers::{State, IAR, REGISTERS};
 
     /// One step of a line at an address, from a state.
-    fn step(line: &str, at: u32, state: &mut State) {
+    fn step(profile: Profile, line: &str, at: u32, state: &mut State) {
         let mut memory = [0; 64];
-        let word = library::assemble(line.as_bytes()).unwrap();
+        let word = profile.assemble(line.as_bytes()).unwrap();
         memory[at as usize..at as usize + 4].copy_from_slice(&word.to_be_bytes());
         state.put(IAR, at);
-        assert_eq!(library::step(state, &mut memory, 0).unwrap().count, 1);
+        assert_eq!(profile.step(state, &mut memory, 0).unwrap().count, 1);
     }
 
     #[test]
     fn branches_lead_where_the_core_goes() {
         for line in ["b 8", "bl -8", "ba 8", "bla -8", "bc 20,0,12", "bcl 20,0,-4", "bca 20,0,12", "bcla 20,0,-4"] {
             let mut state = State::zero();
-            step(line, 16, &mut state);
+            step(Profile::Ppe42, line, 16, &mut state);
             assert_eq!(target(line, 16), Some(state.get(IAR)), "{line}");
         }
         assert_eq!(target("bclr 20,0", 16), None);
@@ -212,16 +217,16 @@ mod tests {
 
     #[test]
     fn special_purpose_registers_are_named() {
-        for number in 0..1024 {
+        for (number, profile) in (0..1024).flat_map(|number| Profile::BOTH.map(|profile| (number, profile))) {
             let line = format!("mfspr r3,{number}");
             let Some(name) = spr(&line) else {
-                assert!(library::assemble(line.as_bytes()).is_err(), "{line}");
+                assert!(profile.assemble(line.as_bytes()).is_err(), "{line}");
                 continue;
             };
             let place = registers::place_of(name).unwrap();
             let mut state = State::zero();
-            state.put(place, REGISTERS[place].defined & 0x4555_5555);
-            step(&line, 0, &mut state);
+            state.put(place, REGISTERS[place].bits(profile).defined & 0x4555_5555);
+            step(profile, &line, 0, &mut state);
             assert!(state.get(3) == state.get(place) && state.get(3) != 0, "{line}");
             assert_eq!(spr(&format!("mtspr {number},r3")), Some(name));
         }
@@ -232,8 +237,10 @@ mod tests {
         let mut word = 1u32;
         for _ in 0..200_000 {
             word = word.wrapping_mul(1_664_525).wrapping_add(1_013_904_223);
-            let whole = library::assemble(instruction(word).as_bytes()) == Ok(word);
-            assert_eq!(whole, library::legal(word) && unwritten(word).is_none(), "{word:08X}");
+            for profile in Profile::BOTH {
+                let whole = profile.assemble(instruction(profile, word).as_bytes()) == Ok(word);
+                assert_eq!(whole, profile.legal(word) && unwritten(profile, word).is_none(), "{word:08X}");
+            }
         }
     }
 }

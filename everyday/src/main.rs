@@ -2,19 +2,22 @@
 
 use clap::Parser;
 use everyday::args::{Command, What};
+use everyday::profile::Profile;
 use everyday::{asm, complain, diff, list, make, run, show, srec, trace};
 use std::process::ExitCode;
 
 fn main() -> ExitCode {
-    let done = match Command::parse().what {
-        What::Make(args) => make::make(&args),
-        What::Show(args) => show::show(&args),
-        What::List(args) => list::list(&args),
-        What::Run(args) => run::run(&args),
-        What::Trace(args) => trace::trace(&args),
-        What::Diff(args) => diff::diff(&args),
-        What::Srec(args) => srec::srec(&args),
-        What::Asm(args) => asm::asm(&args),
+    let Command { what, is_42x } = Command::parse();
+    let profile = Profile::of(is_42x);
+    let done = match what {
+        What::Make(args) => make::make(profile, &args),
+        What::Show(args) => show::show(profile, &args),
+        What::List(args) => list::list(profile, &args),
+        What::Run(args) => run::run(profile, &args),
+        What::Trace(args) => trace::trace(profile, &args),
+        What::Diff(args) => diff::diff(profile, &args),
+        What::Srec(args) => srec::srec(profile, &args),
+        What::Asm(args) => asm::asm(profile, &args),
     };
     done.unwrap_or_else(|wrong| {
         complain!("{wrong}");

@@ -3,9 +3,10 @@
 use crate::args::Make;
 use crate::capture::Capture;
 use crate::files::{self, MOST_FIRMWARE};
-use crate::firmware::{self, Code, Firmware};
+use crate::firmware::{self, Code, Firmware, Lacking};
 use crate::library::{BLOCK, MOST};
 use crate::numbers;
+use crate::profile::Profile;
 use crate::registers::{State, IAR};
 use crate::{complain, say};
 use std::process::ExitCode;
@@ -13,17 +14,17 @@ use std::process::ExitCode;
 /// Words that are named one by one.
 const NAMED: usize = 20;
 
-pub fn make(args: &Make) -> Result<ExitCode, String> {
+pub fn make(profile: Profile, args: &Make) -> Result<ExitCode, String> {
     let lent = lent(&args.memory)?;
     if files::same(&args.firmware, &args.out) {
         return Err(format!("{} is the firmware itself; name another capture", args.out.display()));
     }
     let file = files::read(&args.firmware, MOST_FIRMWARE, "a firmware")?;
     let firmware = firmware::load(&args.firmware.display().to_string(), &file, lent)?;
-    let mut capture = Capture { state: State::zero(), memory: firmware.memory.clone() };
+    let mut capture = Capture { profile, state: State::zero(), memory: firmware.memory.clone() };
     capture.state.put(IAR, firmware.entry);
     capture.set(&args.set).map_err(|wrong| with_entry(wrong, firmware.entry))?;
-    if tell_lacking(&firmware) && !args.anyway {
+    if tell_lacking(profile, &firmware) && !args.anyway {
         complain!("no capture was written; write the firmware without these (docs/FIRMWARE.md), or add --anyway");
         return Ok(ExitCode::from(1));
     }
@@ -49,7 +50,7 @@ fn lent(text: &str) -> Result<usize, String> {
 }
 
 /// Names the words of the code that the core lacks; whether there are any.
-fn tell_lacking(firmware: &Firmware) -> bool {
+fn tell_lacking(profile: Profile, firmware: &Firmware) -> bool {
     let code = match &firmware.code {
         Code::Known(code) => code,
         Code::Untold(what) => {
@@ -57,13 +58,25 @@ fn tell_lacking(firmware: &Firmware) -> bool {
             return false;
         }
     };
-    let (words, lacking) = firmware::lacking(code, &firmware.symbols);
-    for lacking in lacking.iter().take(NAMED) {
-        say!("{}: {:08X} is no PPE 42 instruction", firmware.symbols.place(lacking.address), lacking.word);
+    let (words, lacking) = firmware::lacking(profile, code, &firmware.symbols);
+    let core = profile.name();
+    for &Lacking { address, word } in lacking.iter().take(NAMED) {
+        let place = firmware.symbols.place(address);
+        let wider = line_of_42x(profile, word).map_or(String::new(), |line| format!("; a PPE 42X has it: {line}"));
+        say!("{place}: {word:08X} is no {core} instruction{wider}");
     }
     if lacking.len() > NAMED {
         say!("and {} more", lacking.len() - NAMED);
     }
-    say!("{} words, of which the PPE 42 lacks {}", numbers::grouped(words as u64), lacking.len());
+    let wider = match lacking.iter().filter(|lacking| line_of_42x(profile, lacking.word).is_some()).count() {
+        0 => String::new(),
+        count => format!("; a PPE 42X has {count} of them: --42x"),
+    };
+    say!("{} words, of which the {core} lacks {}{wider}", numbers::grouped(words as u64), lacking.len());
     !lacking.is_empty()
+}
+
+/// The line of a word that the core lacks and a 42X would have.
+fn line_of_42x(profile: Profile, word: u32) -> Option<String> {
+    profile.wider()?.disassemble(word).map(|line| line.text)
 }

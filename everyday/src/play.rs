@@ -3,6 +3,7 @@
 use crate::capture::Capture;
 use crate::events::Events;
 use crate::library::{self, Refusal, MOST};
+use crate::profile::Profile;
 use crate::progress::Progress;
 use crate::registers::{IAR, MSR, WE};
 use crate::step::{self, Step};
@@ -94,8 +95,8 @@ impl Player<'_> {
         let most = (budget - self.steps).min(MOST as u64) as u32;
         self.events.list(self.steps, most, &mut self.list);
         // after the first reach there is nothing more to tell
-        let run = if self.reached.is_none() { library::run_reach } else { library::run };
-        let answer = run(&mut self.capture.state, &mut self.capture.memory, &self.list, most)?;
+        let run = if self.reached.is_none() { Profile::run_reach } else { Profile::run };
+        let answer = run(self.capture.profile, &mut self.capture.state, &mut self.capture.memory, &self.list, most)?;
         self.steps += u64::from(answer.count);
         if answer.reached {
             let began = Instant::now();
@@ -113,7 +114,8 @@ impl Player<'_> {
         for k in 0..most as usize {
             let event = [self.list.get(k).copied().unwrap_or(0)];
             let waited = self.capture.state.get(MSR) & WE != 0;
-            let answer = library::run_reach(&mut self.capture.state, &mut self.capture.memory, &event, 1)?;
+            let Capture { profile, state, memory } = &mut *self.capture;
+            let answer = profile.run_reach(state, memory, &event, 1)?;
             if answer.reached {
                 self.reached.get_or_insert(self.steps);
             }
@@ -143,7 +145,8 @@ impl Player<'_> {
         let mut at = self.kept_at;
         loop {
             self.events.list(at, MOST as u32, &mut self.list);
-            let answer = library::run_inside(&mut capture.state, &mut capture.memory, &self.list, MOST as u32)?;
+            let answer =
+                capture.profile.run_inside(&mut capture.state, &mut capture.memory, &self.list, MOST as u32)?;
             at += u64::from(answer.count);
             if answer.reached {
                 return Ok(at - 1);
@@ -158,7 +161,7 @@ impl Player<'_> {
         while at < self.steps - 1 {
             let most = (self.steps - 1 - at).min(MOST as u64) as u32;
             self.events.list(at, most, &mut self.list);
-            at += u64::from(library::run(&mut capture.state, &mut capture.memory, &self.list, most)?.count);
+            at += u64::from(capture.profile.run(&mut capture.state, &mut capture.memory, &self.list, most)?.count);
         }
         self.events.list(at, 1, &mut self.list);
         step::take(&mut capture, at, self.list.first().copied().unwrap_or(0))

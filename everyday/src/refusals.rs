@@ -1,16 +1,22 @@
 //! The library's refusals in words: what is wrong, where, and what to do.
 
+use crate::capture::Capture;
 use crate::firmware;
 use crate::library::{Refusal, BLOCK, MOST, STATE, TRAILER};
+use crate::profile::Profile;
 use crate::registers::{State, HALT, IAR, MOST_HALT, REGISTERS};
 use crate::srecords;
 
 /// Of a state and a memory that a run refuses.
-pub fn of_start(refusal: Refusal, state: &State, memory: usize) -> String {
+pub fn of_start(refusal: Refusal, capture: &Capture) -> String {
+    of_state(refusal, capture.profile, &capture.state, capture.memory.len())
+}
+
+fn of_state(refusal: Refusal, profile: Profile, state: &State, memory: usize) -> String {
     match refusal {
         1 => format!("refusal 1: a memory of {memory} bytes; lend a multiple of {BLOCK}, from {BLOCK} to {MOST}"),
         2 => format!("refusal 2: IAR is {:08X}; give it a multiple of 4", state.get(IAR)),
-        3 => format!("refusal 3: {}", reserved(state)),
+        3 => format!("refusal 3: {}{}", reserved(profile, state), wider(profile, state)),
         _ => format!("refusal {refusal}: docs/CORE.md says what that is"),
     }
 }
@@ -28,14 +34,14 @@ pub fn of_record(refusal: Refusal) -> &'static str {
 }
 
 /// Of a file that is no capture, or one that no run accepts.
-pub fn of_capture(refusal: Refusal, file: &[u8]) -> String {
+pub fn of_capture(refusal: Refusal, profile: Profile, file: &[u8]) -> String {
     let memory = file.len().saturating_sub(TRAILER);
     if refusal == 7 {
         return format!("refusal 7: {}", not_a_capture(file));
     }
     let mut state = State::zero();
     state.0.copy_from_slice(&file[memory..memory + STATE]);
-    let wrong = of_start(refusal, &state, memory);
+    let wrong = of_state(refusal, profile, &state, memory);
     if refusal == 1 {
         return wrong;
     }
@@ -64,10 +70,10 @@ fn not_a_capture(file: &[u8]) -> String {
 }
 
 /// Each register with a reserved bit set, and the bits.
-fn reserved(state: &State) -> String {
+fn reserved(profile: Profile, state: &State) -> String {
     let mut wrong: Vec<String> = Vec::new();
     for (place, register) in REGISTERS.iter().enumerate() {
-        let bits = state.get(place) & !register.defined;
+        let bits = state.get(place) & !register.bits(profile).defined;
         if bits != 0 {
             wrong.push(format!("{} is {:08X}: clear its reserved bits {bits:08X}", register.name, state.get(place)));
         }
@@ -76,4 +82,14 @@ fn reserved(state: &State) -> String {
         wrong.push(format!("the halt code is {}: give one from 0 to {MOST_HALT}", state.get(HALT)));
     }
     wrong.join("; ")
+}
+
+/// What to do if to another profile no reserved bit is set. The memory was not what is wrong, so that any other will do.
+fn wider(profile: Profile, state: &State) -> &'static str {
+    match profile.wider() {
+        Some(wider) if wider.start_check(state, &[0; BLOCK]) != Err(3) => {
+            "; a PPE 42X defines these bits: if this is a 42X's capture, give --42x"
+        }
+        _ => "",
+    }
 }

@@ -2,6 +2,7 @@
 //! for messages; what a register does is the library's affair.
 
 use crate::library::STATE;
+use crate::profile::Profile;
 
 /// A state, big-endian words in the order of `REGISTERS`.
 #[derive(Clone, PartialEq)]
@@ -24,17 +25,37 @@ impl State {
 
 pub struct Register {
     pub name: &'static str,
+    of_42: Bits,
+    of_42x: Bits,
+}
+
+/// The bits of a register that are defined, and the fields that they make.
+#[derive(Clone, Copy)]
+pub struct Bits {
     pub defined: u32,
     pub fields: &'static [Field],
 }
 
-/// Bits `first` to `last`, bit 0 being the leftmost, and what they mean when they are 0 and when they are not.
+impl Register {
+    pub fn bits(&self, profile: Profile) -> Bits {
+        match profile {
+            Profile::Ppe42 => self.of_42,
+            Profile::Ppe42X => self.of_42x,
+        }
+    }
+
+    const fn but_on_42x(self, defined: u32, fields: &'static [Field]) -> Register {
+        Register { of_42x: Bits { defined, fields }, ..self }
+    }
+}
+
+/// Bits `first` to `last`, bit 0 being the leftmost, and what they mean by their value; what the last says goes for those above
+/// it too.
 pub struct Field {
     pub name: &'static str,
     pub first: u32,
     pub last: u32,
-    pub zero: &'static str,
-    pub set: &'static str,
+    means: &'static [&'static str],
 }
 
 impl Field {
@@ -42,15 +63,19 @@ impl Field {
         let width = self.last - self.first + 1;
         word >> (31 - self.last) & (u32::MAX >> (32 - width))
     }
+
+    pub fn means(&self, value: u32) -> &'static str {
+        self.means[self.means.len().min(value as usize + 1) - 1]
+    }
 }
 
-const fn field(name: &'static str, first: u32, last: u32, zero: &'static str, set: &'static str) -> Field {
-    Field { name, first, last, zero, set }
+const fn field(name: &'static str, first: u32, last: u32, means: &'static [&'static str]) -> Field {
+    Field { name, first, last, means }
 }
 
 /// One that firmware can write and read and that does nothing.
 const fn stored(name: &'static str, first: u32, last: u32) -> Field {
-    field(name, first, last, "", "stored, no effect")
+    field(name, first, last, &["", "stored, no effect"])
 }
 
 const fn plain(name: &'static str) -> Register {
@@ -58,14 +83,15 @@ const fn plain(name: &'static str) -> Register {
 }
 
 const fn with_fields(name: &'static str, defined: u32, fields: &'static [Field]) -> Register {
-    Register { name, defined, fields }
+    let bits = Bits { defined, fields };
+    Register { name, of_42: bits, of_42x: bits }
 }
 
 const MSR_FIELDS: &[Field] = &[
-    field("WE", 13, 13, "does not wait", "waits until an asynchronous interrupt is entered"),
-    field("UIE", 15, 15, "faults are not taken as such: ME decides", "a fault is taken at its own vector"),
-    field("EE", 16, 16, "asynchronous interrupts are held back", "asynchronous interrupts are let through"),
-    field("ME", 19, 19, "with UIE 0, a fault halts the core with 1", "with UIE 0, a fault becomes a machine check"),
+    field("WE", 13, 13, &["does not wait", "waits until an asynchronous interrupt is entered"]),
+    field("UIE", 15, 15, &["faults are not taken as such: ME decides", "a fault is taken at its own vector"]),
+    field("EE", 16, 16, &["asynchronous interrupts are held back", "asynchronous interrupts are let through"]),
+    field("ME", 19, 19, &["with UIE 0, a fault halts the core with 1", "with UIE 0, a fault becomes a machine check"]),
     stored("SEM", 1, 7),
     stored("IS0", 8, 8),
     stored("SIBRC", 9, 11),
@@ -76,6 +102,25 @@ const MSR_FIELDS: &[Field] = &[
     stored("IPE", 23, 23),
     stored("SIBRCA", 24, 31),
 ];
+
+// of DBCR and TCR, those that both profiles have
+const RST: Field = field("RST", 2, 3, &["no reset asked for", "acts only when an mtspr writes it"]);
+const TRAP: Field = field("TRAP", 7, 7, &["a trap is a program interrupt", "a trap halts the core with 3"]);
+const IACE: Field = stored("IACE", 8, 8);
+const DACE: Field = stored("DACE", 12, 13);
+const WP: Field = field("WP", 0, 1, &["the watchdog goes by timer input 0", "the watchdog goes by this timer input"]);
+const WRC: Field =
+    field("WRC", 2, 3, &["the watchdog does not act", "when the watchdog acts, 1 and 2 ask for a reset, 3 halts"]);
+const WIE: Field = field("WIE", 4, 4, &["", "watchdog interrupt enabled"]);
+const DIE: Field = field("DIE", 5, 5, &["", "decrementer interrupt enabled"]);
+const FP: Field = field(
+    "FP",
+    6,
+    7,
+    &["the fixed interval timer goes by timer input 0", "the fixed interval timer goes by this timer input"],
+);
+const FIE: Field = field("FIE", 8, 8, &["", "fixed interval timer interrupt enabled"]);
+const EVERY_STEP: &str = "DEC counts in every step";
 
 /// The special-purpose registers by the numbers of mfspr and mtspr.
 const SPRS: [(u32, &str); 16] = [
@@ -119,22 +164,25 @@ pub const REGISTERS: [Register; 36] = [
         "CR",
         0xF000_0000,
         &[
-            field("LT", 0, 0, "", "less"),
-            field("GT", 1, 1, "", "greater"),
-            field("EQ", 2, 2, "", "equal"),
-            field("SO", 3, 3, "", "summary overflow"),
+            field("LT", 0, 0, &["", "less"]),
+            field("GT", 1, 1, &["", "greater"]),
+            field("EQ", 2, 2, &["", "equal"]),
+            field("SO", 3, 3, &["", "summary overflow"]),
         ],
     ),
     plain("CTR"),
     plain("DACR"),
-    with_fields(
-        "DBCR",
-        0x318C_0000,
+    with_fields("DBCR", 0x318C_0000, &[RST, TRAP, IACE, DACE]).but_on_42x(
+        0x318C_00C7,
         &[
-            field("RST", 2, 3, "no reset asked for", "acts only when an mtspr writes it"),
-            field("TRAP", 7, 7, "a trap is a program interrupt", "a trap halts the core with 3"),
-            stored("IACE", 8, 8),
-            stored("DACE", 12, 13),
+            RST,
+            TRAP,
+            IACE,
+            DACE,
+            stored("ACS", 24, 25),
+            stored("ZACE", 29, 29),
+            stored("HDFI", 30, 30),
+            stored("HDFT", 31, 31),
         ],
     ),
     plain("DEC"),
@@ -144,11 +192,11 @@ pub const REGISTERS: [Register; 36] = [
         0x0000_F4CF,
         &[
             stored("SRSMS", 16, 19),
-            field("EP", 21, 21, "", "an external request, or an enabled timer status"),
-            field("PTR", 24, 24, "", "the last program interrupt was a trap"),
-            field("ST", 25, 25, "", "the last data storage or alignment interrupt was a store"),
-            field("MFE", 28, 28, "", "multiple fault error; this core only clears it"),
-            field("MCS", 29, 31, "", "4 program, 5 instruction storage, 6 alignment, 7 data storage was promoted"),
+            field("EP", 21, 21, &["", "an external request, or an enabled timer status"]),
+            field("PTR", 24, 24, &["", "the last program interrupt was a trap"]),
+            field("ST", 25, 25, &["", "the last data storage or alignment interrupt was a store"]),
+            field("MFE", 28, 28, &["", "multiple fault error; this core only clears it"]),
+            field("MCS", 29, 31, &["", "4 program, 5 instruction storage, 6 alignment, 7 data storage was promoted"]),
         ],
     ),
     with_fields("IVPR", 0xFFFF_FE00, &[]),
@@ -162,37 +210,49 @@ pub const REGISTERS: [Register; 36] = [
     with_fields(
         "TCR",
         0xFFC0_0000,
+        &[WP, WRC, WIE, DIE, FP, FIE, field("DS", 9, 9, &[EVERY_STEP, "DEC counts on its input only"])],
+    )
+    .but_on_42x(
+        0xFFE0_0000,
         &[
-            field("WP", 0, 1, "the watchdog goes by timer input 0", "the watchdog goes by this timer input"),
-            field("WRC", 2, 3, "the watchdog does not act", "when the watchdog acts, 1 and 2 ask for a reset, 3 halts"),
-            field("WIE", 4, 4, "", "watchdog interrupt enabled"),
-            field("DIE", 5, 5, "", "decrementer interrupt enabled"),
+            WP,
+            WRC,
+            WIE,
+            DIE,
+            FP,
+            FIE,
             field(
-                "FP",
-                6,
-                7,
-                "the fixed interval timer goes by timer input 0",
-                "the fixed interval timer goes by this timer input",
+                "DS",
+                9,
+                10,
+                &[
+                    EVERY_STEP,
+                    "DEC counts on timer input 1 only",
+                    "DEC counts on the decrementer input only",
+                    "DEC counts on timer input 3 only",
+                ],
             ),
-            field("FIE", 8, 8, "", "fixed interval timer interrupt enabled"),
-            field("DS", 9, 9, "DEC counts in every step", "DEC counts on its input only"),
         ],
     ),
     with_fields(
         "TSR",
         0xFC00_0000,
         &[
-            field("ENW", 0, 0, "", "a first watchdog event came"),
-            field("WIS", 1, 1, "", "a second watchdog event came"),
-            field("WRS", 2, 3, "", "WRC of the watchdog's last action"),
-            field("DIS", 4, 4, "", "the decrementer went below 0"),
-            field("FIS", 5, 5, "", "the fixed interval timer came"),
+            field("ENW", 0, 0, &["", "a first watchdog event came"]),
+            field("WIS", 1, 1, &["", "a second watchdog event came"]),
+            field("WRS", 2, 3, &["", "WRC of the watchdog's last action"]),
+            field("DIS", 4, 4, &["", "the decrementer went below 0"]),
+            field("FIS", 5, 5, &["", "the fixed interval timer came"]),
         ],
     ),
     with_fields(
         "XER",
         0xE000_0000,
-        &[field("SO", 0, 0, "", "summary overflow"), field("OV", 1, 1, "", "overflow"), field("CA", 2, 2, "", "carry")],
+        &[
+            field("SO", 0, 0, &["", "summary overflow"]),
+            field("OV", 1, 1, &["", "overflow"]),
+            field("CA", 2, 2, &["", "carry"]),
+        ],
     ),
     plain("IAR"),
     plain("halt"),
@@ -200,7 +260,10 @@ pub const REGISTERS: [Register; 36] = [
 
 pub const DBCR: usize = 19;
 pub const DEC: usize = 20;
+pub const EDR: usize = 21;
 pub const MSR: usize = 25;
+#[cfg(test)]
+const TCR: usize = 31;
 pub const IAR: usize = 34;
 pub const HALT: usize = 35;
 
@@ -238,4 +301,63 @@ pub fn names() -> String {
 /// The places whose words differ.
 pub fn changed(old: &State, new: &State) -> Vec<usize> {
     (0..REGISTERS.len()).filter(|&place| old.get(place) != new.get(place)).collect()
+}
+
+#[cfg(test)]
+mod tests {
+    use super::*;
+
+    /// What the library takes of a state with one bit set.
+    #[test]
+    fn defined_bits_are_the_library_s() {
+        let places = || (0..REGISTERS.len()).filter(|&place| place != IAR && place != HALT);
+        for (profile, place) in
+            Profile::BOTH.into_iter().flat_map(|profile| places().map(move |place| (profile, place)))
+        {
+            let register = &REGISTERS[place];
+            let taken = |bit: &u32| {
+                let mut state = State::zero();
+                state.put(place, *bit);
+                profile.start_check(&state, &[0; 32]).is_ok()
+            };
+            let defined: u32 = (0..32).map(|bit| 1 << bit).filter(taken).sum();
+            assert_eq!(register.bits(profile).defined, defined, "{} of a {}", register.name, profile.name());
+        }
+    }
+
+    /// Fields lie in the defined bits and over no other, and there are no more meanings than values.
+    #[test]
+    fn fields_are_defined_and_apart() {
+        for (profile, register) in
+            REGISTERS.iter().flat_map(|register| Profile::BOTH.map(|profile| (profile, register)))
+        {
+            let Bits { defined, fields } = register.bits(profile);
+            let masks = fields.iter().map(|field| u32::MAX >> field.first & u32::MAX << (31 - field.last));
+            let all: u64 = masks.map(u64::from).sum();
+            assert!(fields.is_empty() || all == u64::from(defined), "{}", register.name);
+            assert!(fields.iter().all(|field| field.means.len() <= 1 << (field.last - field.first + 1)));
+        }
+    }
+
+    /// What show says of TCR[DS], beside the event bytes on which DEC counts.
+    #[test]
+    fn ds_is_what_dec_counts_on() {
+        let inputs = [("decrementer input", 2), ("input only", 2), ("timer input 1", 8), ("timer input 3", 32)];
+        for (profile, ds) in
+            [(Profile::Ppe42, 0), (Profile::Ppe42, 2)].into_iter().chain((0..4).map(|ds| (Profile::Ppe42X, ds)))
+        {
+            let tcr = ds << 21;
+            let field = REGISTERS[TCR].bits(profile).fields.last().unwrap();
+            let said = field.means(field.of(tcr));
+            let input = inputs.iter().find(|(words, _)| said.contains(words)).map(|&(_, byte)| byte);
+            for event in 0..64 {
+                let mut state = State::zero();
+                state.put(TCR, tcr);
+                state.put(DEC, 5);
+                profile.step(&mut state, &mut [0; 32], event).unwrap();
+                let counts = input.map_or(true, |input| event & input != 0);
+                assert_eq!(state.get(DEC), 5 - u32::from(counts), "{said}, event {event}");
+            }
+        }
+    }
 }

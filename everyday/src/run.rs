@@ -8,6 +8,7 @@ use crate::files;
 use crate::load;
 use crate::numbers::{self, grouped};
 use crate::play::{self, End, Played, Until};
+use crate::profile::Profile;
 use crate::refusals;
 use crate::registers::{self, HALT, IAR, MSR, WE};
 use crate::symbols::Symbols;
@@ -18,8 +19,8 @@ use std::process::ExitCode;
 /// Lines of memory that are shown.
 const SHOWN: usize = 32;
 
-pub fn run(args: &Run) -> Result<ExitCode, String> {
-    let mut after = Capture::read(&args.capture)?;
+pub fn run(profile: Profile, args: &Run) -> Result<ExitCode, String> {
+    let mut after = Capture::read(profile, &args.capture)?;
     after.set(&args.set)?;
     let symbols = load::symbols(&args.elf)?;
     let events = load::events(&args.events, &args.event)?;
@@ -31,8 +32,8 @@ pub fn run(args: &Run) -> Result<ExitCode, String> {
     }
     args.out.as_deref().map_or(Ok(()), files::has_place)?;
     let before = after.clone();
-    let played = play::play(&mut after, &events, budget, until)
-        .map_err(|refusal| refusals::of_start(refusal, &before.state, before.memory.len()))?;
+    let played =
+        play::play(&mut after, &events, budget, until).map_err(|refusal| refusals::of_start(refusal, &before))?;
     let report = Report { before: &before, after: &after, played: &played, symbols: &symbols };
     let met = expected.as_ref().map(|expected| expected.met(&played, &after));
     if args.json {

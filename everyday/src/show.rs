@@ -4,6 +4,7 @@ use crate::args::Show;
 use crate::capture::Capture;
 use crate::changes::{line, words, LINE};
 use crate::load;
+use crate::profile::Profile;
 use crate::registers::{halt_words, State, DBCR, HALT, MSR, REGISTERS};
 use crate::say;
 use crate::symbols::Symbols;
@@ -11,15 +12,15 @@ use std::process::ExitCode;
 
 const COLUMNS: usize = 4;
 
-pub fn show(args: &Show) -> Result<ExitCode, String> {
-    let capture = Capture::read(&args.capture)?;
+pub fn show(profile: Profile, args: &Show) -> Result<ExitCode, String> {
+    let capture = Capture::read(profile, &args.capture)?;
     let symbols = load::symbols(&args.elf)?;
     let range = args.memory.as_deref().map(|text| range(text, &capture)).transpose()?;
     say!("memory {} bytes", capture.memory.len());
     table(&capture.state);
     places(&capture.state, &symbols);
     for (place, _) in REGISTERS.iter().enumerate() {
-        fields(&capture.state, place);
+        fields(&capture, place);
     }
     say!("halt   {}", halt_words(capture.state.get(HALT)));
     if let Some((from, to)) = range {
@@ -48,12 +49,12 @@ fn places(state: &State, symbols: &Symbols) {
 }
 
 /// What the bits mean: of MSR and DBCR always, of another register where it is not 0.
-fn fields(state: &State, place: usize) {
+fn fields(capture: &Capture, place: usize) {
     let register = &REGISTERS[place];
-    let word = state.get(place);
-    for field in register.fields {
+    let word = capture.state.get(place);
+    for field in register.bits(capture.profile).fields {
         let value = field.of(word);
-        let means = if value == 0 { field.zero } else { field.set };
+        let means = field.means(value);
         if !means.is_empty() && (word != 0 || place == MSR || place == DBCR) {
             say!("{:<5}  {:<6} {value:<3} {means}", register.name, field.name);
         }

@@ -185,6 +185,7 @@ mod tests {
     use super::*;
     use crate::excerpt::readable;
     use crate::library::{self, BLOCK};
+    use crate::profile::Profile;
 
     /// Numbers that look random, the same in every run.
     struct Draw(u64);
@@ -409,7 +410,7 @@ mod tests {
     #[test]
     fn no_instruction_begins_as_records_do() {
         for first in [0x5330_0000..0x533A_0000, 0x7330_0000..0x733A_0000].into_iter().flatten() {
-            assert!(!library::legal(first), "{first:08X}");
+            assert!(Profile::BOTH.iter().all(|profile| !profile.legal(first)), "{first:08X}");
         }
     }
 }

@@ -1,14 +1,16 @@
 //! One step: what the library tells of it before it is taken, and what it left.
 
 use crate::capture::Capture;
-use crate::library::{self, Access, Fault, Interrupt, Refusal, Told};
-use crate::registers::{State, HALT, IAR, MSR, UIE};
+use crate::frame::{self, Frame};
+use crate::library::{Access, Fault, Interrupt, Refusal, Told};
+use crate::registers::{State, EDR, HALT, IAR, MSR, UIE};
 use crate::symbols::Symbols;
 
 pub struct Step {
     pub number: u64,
     pub event: u8,
     pub told: Told,
+    /// What it accesses, unless that is a frame.
     pub access: Option<Access>,
     /// The word at IAR, where it was fetched.
     pub word: Option<u32>,
@@ -16,19 +18,24 @@ pub struct Step {
     pub after: State,
     /// The bytes that its access is to, before and after it; none where they are outside.
     pub bytes: (Vec<u8>, Vec<u8>),
+    pub frame: Option<Frame>,
 }
 
 /// Takes the step. A capture that was read is accepted, and so is what a step leaves.
 pub fn take(capture: &mut Capture, number: u64, event: u8) -> Result<Step, Refusal> {
-    let told = library::tell(&capture.state, &capture.memory, event)?;
-    let access = library::access(&capture.state, &capture.memory, event);
+    let told = capture.profile.tell(&capture.state, &capture.memory, event)?;
+    let tried = capture.profile.access(&capture.state, &capture.memory, event);
     let before = capture.state.clone();
     let fetched = matches!(told, Told::Executes | Told::Faults(_)) && told != Told::Faults(Fault::InstructionStorage);
     let word = if fetched { capture.word_at(before.get(IAR)) } else { None };
+    let is_frame = word.is_some_and(|word| frame::is_accessed_by(capture.profile, word));
+    let access = tried.filter(|_| !is_frame);
+    let frame = tried.filter(|_| is_frame).map(|access| Frame::before(capture, access));
     let old = bytes_at(capture, access);
-    library::step(&mut capture.state, &mut capture.memory, event)?;
+    capture.profile.step(&mut capture.state, &mut capture.memory, event)?;
     let bytes = (old, bytes_at(capture, access));
-    Ok(Step { number, event, told, access, word, before, after: capture.state.clone(), bytes })
+    let frame = frame.map(|frame| frame.after(capture));
+    Ok(Step { number, event, told, access, word, before, after: capture.state.clone(), bytes, frame })
 }
 
 fn bytes_at(capture: &Capture, access: Option<Access>) -> Vec<u8> {
@@ -67,7 +74,13 @@ impl Step {
             Fault::InstructionStorage => format!("fetch from {at}, outside the memory"),
             Fault::Illegal => format!("the word {word:08X} at {at} is no instruction"),
             Fault::Trap => format!("trap by the word at {at}"),
+            Fault::DataStorage if self.frame.is_some() => {
+                format!("{}, at {:08X}, by the word at {at}", self.tried(), self.after.get(EDR))
+            }
             Fault::DataStorage => format!("{} by the word at {at}", self.tried()),
+            Fault::Alignment if self.frame.is_some() => {
+                format!("{}, which begins at no multiple of 8, by the word at {at}", self.tried())
+            }
             Fault::Alignment => {
                 format!("{} across {:08X}, a multiple of 8, by the word at {at}", self.tried(), self.crossed())
             }
@@ -80,6 +93,9 @@ impl Step {
     }
 
     fn tried(&self) -> String {
+        if let Some(frame) = &self.frame {
+            return format!("{} of the frame {:08X}..{:08X}", frame.verb(), frame.access.address, frame.last());
+        }
         match self.access {
             Some(Access { address, writes: true, bytes: 32 }) => format!("clearing of the block at {address:08X}"),
             Some(Access { address, writes: true, bytes }) => format!("store to {address:08X}{}", width(bytes)),

@@ -57,9 +57,12 @@ fn mutilate_lines(bytes: &[u8], draw: &mut Draw) -> Vec<u8> {
     lines.concat()
 }
 
+/// The options of the profiles.
+const CORES: [&[&str]; 2] = [&[], &["--42x"]];
+
 /// The exit status.
-fn plays(folder: &Path, arguments: &[&str]) -> i32 {
-    let output = ppe42(folder, arguments);
+fn plays(folder: &Path, core: &[&str], arguments: &[&str]) -> i32 {
+    let output = ppe42(folder, &[arguments, core].concat());
     let said = text(&output.stderr);
     match output.status.code() {
         Some(0) => {}
@@ -82,7 +85,8 @@ fn mutilated_inputs() {
     let events = b"at 100 1\nevery 50 timer0 # ticks\nfrom 200 to 260 external+timer3\n1000*0 5 3*2\n";
     let mut draw = Draw(0x9E37_79B9_7F4A_7C15);
     let mut taken = 0;
-    for _ in 0..50 {
+    for turn in 0..50 {
+        let core = CORES[turn % 2];
         fs::write(folder.join("bad.elf"), mutilate(&elf, &mut draw)).unwrap();
         fs::write(folder.join("bad.capture"), mutilate(&capture, &mut draw)).unwrap();
         fs::write(folder.join("bad.txt"), mutilate(events, &mut draw)).unwrap();
@@ -95,13 +99,14 @@ fn mutilated_inputs() {
             _ => &["diff", "ledger.capture", "bad.capture"],
         };
         let plays = [
-            plays(&folder, &["make", "bad.elf", "-o", "out.capture", "--memory", "16384", "--anyway"]),
-            plays(&folder, &["trace", "ledger.capture", "--elf", "bad.elf", "--steps", "50"]),
+            plays(&folder, core, &["make", "bad.elf", "-o", "out.capture", "--memory", "16384", "--anyway"]),
+            plays(&folder, core, &["trace", "ledger.capture", "--elf", "bad.elf", "--steps", "50"]),
             plays(
                 &folder,
+                core,
                 &["run", "ledger.capture", "--events", "bad.txt", "--out", "out.capture", "--steps", "2000"],
             ),
-            plays(&folder, fourth),
+            plays(&folder, core, fourth),
         ];
         taken += plays.iter().filter(|&&status| status == 0).count();
     }
@@ -121,7 +126,7 @@ fn mutilated_records() {
         let good = &files[k % 2];
         let bad = if k % 4 < 2 { mutilate(good, &mut draw) } else { mutilate_lines(good, &mut draw) };
         fs::write(folder.join("bad.srec"), &bad).unwrap();
-        let status = plays(&folder, &["make", "bad.srec", "-o", "out.capture", "--memory", "512"]);
+        let status = plays(&folder, CORES[k % 2], &["make", "bad.srec", "-o", "out.capture", "--memory", "512"]);
         assert!(status != 1, "{}", String::from_utf8_lossy(&bad));
         taken += usize::from(status == 0);
     }
@@ -139,7 +144,7 @@ fn mutilated_lines() {
     for k in 0..100 {
         let random: Vec<u8> = (0..2000).map(|_| draw.below(256) as u8).collect();
         let bytes = if k % 2 == 0 { mutilate(&good.repeat(10), &mut draw) } else { random };
-        let output = fed(&folder, &["asm"], &bytes);
+        let output = fed(&folder, &[&["asm"], CORES[k / 2 % 2]].concat(), &bytes);
         let said = text(&output.stderr);
         let words = text(&output.stdout).lines().count();
         let refused = said.lines().filter(|line| line.starts_with("ppe42: line ")).count();

@@ -5,26 +5,52 @@ mod common;
 use common::{content, folder, ppe42, text};
 use everyday::capture::Capture;
 use everyday::library::{self, Told};
+use everyday::profile::Profile;
 use everyday::registers::{State, IAR, MSR, WE};
 use serde_json::Value;
 use std::fs;
 use std::path::Path;
 
+/// A memory with words at these addresses.
+fn memory(length: usize, parts: &[(usize, &[u32])]) -> Vec<u8> {
+    let mut memory = vec![0; length];
+    for (at, words) in parts {
+        let bytes: Vec<u8> = words.iter().flat_map(|word| word.to_be_bytes()).collect();
+        memory[*at..*at + bytes.len()].copy_from_slice(&bytes);
+    }
+    memory
+}
+
+/// mfspr r6,26; addi r6,r6,4; mtspr 26,r6; rfi
+const STEPS_OVER: &[u32] = &[0x7CDA02A6, 0x38C60004, 0x7CDA03A6, 0x4C000064];
+
 /// loop.bin counts in memory and loads from r5; climb.bin loads at r5, four bytes further in each turn. A handler at 060 steps
 /// over the load, one at 0A0 returns.
 fn loops(folder: &Path) {
-    let mut memory = vec![0; 0x214];
-    let mut put = |at: usize, words: &[u32]| {
-        for (k, word) in words.iter().enumerate() {
-            memory[at + 4 * k..at + 4 * k + 4].copy_from_slice(&word.to_be_bytes());
-        }
-    };
-    put(0, &[0x38630001, 0x90600100, 0x80850000, 0x4BFFFFF4]); // addi r3,r3,1; stw r3,256(0); lwz r4,0(r5); b 0
-    put(0x060, &[0x7CDA02A6, 0x38C60004, 0x7CDA03A6, 0x4C000064]); // mfspr r6,26; addi r6,r6,4; mtspr 26,r6; rfi
-    put(0x0A0, &[0x39080001, 0x4C000064]); // addi r8,r8,1; rfi
-    put(0x200, &[0x38A50004, 0x80850000, 0x60000000, 0x60000000, 0x4BFFFFF0]); // addi r5,r5,4; lwz r4,0(r5); nop; nop; b 200
+    let parts: &[(usize, &[u32])] = &[
+        (0, &[0x38630001, 0x90600100, 0x80850000, 0x4BFFFFF4]), // addi r3,r3,1; stw r3,256(0); lwz r4,0(r5); b 0
+        (0x060, STEPS_OVER),
+        (0x0A0, &[0x39080001, 0x4C000064]), // addi r8,r8,1; rfi
+        // addi r5,r5,4; lwz r4,0(r5); nop; nop; b 200
+        (0x200, &[0x38A50004, 0x80850000, 0x60000000, 0x60000000, 0x4BFFFFF0]),
+    ];
+    let memory = memory(0x214, parts);
     fs::write(folder.join("climb.bin"), &memory).unwrap();
     fs::write(folder.join("loop.bin"), &memory[..0x200]).unwrap();
+}
+
+/// products.bin, for a 42X: from 180 on products and doublewords turned, a load from outside and an illegal word, from 1A0 on
+/// frames pushed and popped, each turn eight bytes further; with handlers for the machine check at 020 and the decrementer.
+fn products(folder: &Path) {
+    let parts: &[(usize, &[u32])] = &[
+        (0x020, STEPS_OVER),
+        (0x100, &[0x3D000800, 0x7D1053A6, 0x4C000064]), // addis r8,0,2048; mtspr 336,r8; rfi
+        (0x180, &[0x1C630005, 0x38630007, 0x7C8319D6]), // mulli r3,r3,5; addi r3,r3,7; mullw r4,r3,r3
+        (0x18C, &[0x787CA200, 0x93800040, 0x81201000]), // rldicl r28,r3,20,8; stw r28,64(0); lwz r9,4096(0)
+        (0x198, &[0, 0x4BFFFFE4]),                      // illegal; b 180
+        (0x1A0, &[0xF821FFF3, 0xE821001B, 0x4BFFFFF8]), // stsku r1,-16(r1); lsku r1,24(r1); b 1A0
+    ];
+    fs::write(folder.join("products.bin"), memory(0x200, parts)).unwrap();
 }
 
 /// Steps one by one with these event bytes; the count, and the first step that faulted for want of memory.
@@ -37,12 +63,12 @@ fn plainly(
     let mut reached = None;
     for step in 0..steps {
         let before = capture.state.clone();
-        let told = library::tell(&capture.state, &capture.memory, event(step)).unwrap();
+        let told = capture.profile.tell(&capture.state, &capture.memory, event(step)).unwrap();
         let outside = [library::Fault::DataStorage, library::Fault::InstructionStorage].map(Told::Faults);
         if outside.contains(&told) {
             reached = reached.or(Some(step));
         }
-        if library::step(&mut capture.state, &mut capture.memory, event(step)).unwrap().count == 0 {
+        if capture.profile.step(&mut capture.state, &mut capture.memory, event(step)).unwrap().count == 0 {
             return (step, reached);
         }
         if until(&before, &capture.state) {
@@ -63,15 +89,17 @@ fn same(
 ) {
     let folder = folder(name);
     loops(&folder);
+    products(&folder);
     content(ppe42(&folder, make));
     let before = folder.join("start.capture");
+    let profile = Profile::of(make.contains(&"--42x"));
     let count = steps.to_string();
     let mut arguments = vec!["run", "start.capture", "--json", "--out", "end.capture", "--steps", &count];
     arguments.extend(run);
     let report: Value = serde_json::from_str(&text(&content(ppe42(&folder, &arguments)).stdout)).unwrap();
-    let mut plain = Capture::read(&before).unwrap();
+    let mut plain = Capture::read(profile, &before).unwrap();
     let (taken, reached) = plainly(&mut plain, event, steps, until);
-    let after = Capture::read(&folder.join("end.capture")).unwrap();
+    let after = Capture::read(profile, &folder.join("end.capture")).unwrap();
     assert!(after.state == plain.state && after.memory == plain.memory, "{name}: not the same state and memory");
     assert_eq!(report["steps"].as_u64(), Some(taken), "{name}");
     assert_eq!(report["reached"].as_u64(), reached, "{name}");
@@ -139,6 +167,28 @@ fn firmware_with_ticks() {
         100_000,
         never,
     );
+}
+
+/// DEC counts on timer 3.
+#[test]
+fn a_42x_with_ticks_and_machine_checks() {
+    let settings = ["IAR=180", "MSR=00009000", "TCR=04600000", "DEC=3", "r3=1"];
+    let settings = settings.iter().flat_map(|setting| ["--set", setting]);
+    let make = ["make", "--42x", "products.bin", "-o", "start.capture", "--memory", "1024"];
+    let make: Vec<&str> = make.into_iter().chain(settings).collect();
+    let run = ["--42x", "--event", "every 3 timer3", "--event", "at 500 external+timer1"];
+    let event = |step: u64| 32 * u8::from(step > 0 && step % 3 == 0) + 9 * u8::from(step == 500);
+    same("products_run", &make, &run, event, 100_000, never);
+}
+
+/// The frames go up and out of the memory, first by their last bytes.
+#[test]
+fn a_42x_with_frames() {
+    let settings = ["IAR=1A0", "MSR=00001000", "r1=200", "LR=11111111", "r28=28282828", "r31=31313131"];
+    let settings = settings.iter().flat_map(|setting| ["--set", setting]);
+    let make = ["make", "--42x", "products.bin", "-o", "start.capture", "--memory", "1024"];
+    let make: Vec<&str> = make.into_iter().chain(settings).collect();
+    same("frames_run", &make, &["--42x"], |_| 0, 100_000, never);
 }
 
 #[test]

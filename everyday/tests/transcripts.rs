@@ -99,6 +99,21 @@ fn list() {
 }
 
 #[test]
+fn products() {
+    transcript("products");
+}
+
+#[test]
+fn frame() {
+    transcript("frame");
+}
+
+#[test]
+fn which_core() {
+    transcript("which_core");
+}
+
+#[test]
 fn wrong_input() {
     transcript("wrong_input");
 }

@@ -15,11 +15,18 @@ const FIRMWARE: [(&str, &[&str]); 5] = [
     ("words", &["everyday/tests/firmware/words.s"]),
 ];
 
+/// With words that the PPE 42 lacks, so that an ELF is all that comes of them; a 42X has those of the last two.
+const LACKING: [(&str, &[&str]); 3] = [
+    ("lacks", &["everyday/tests/firmware/lacks.s"]),
+    ("products", &["everyday/tests/firmware/products.s"]),
+    ("frame", &["everyday/tests/firmware/frame.s"]),
+];
+
 pub fn root() -> PathBuf {
     Path::new(env!("CARGO_MANIFEST_DIR")).parent().expect("everyday/ stands in the repository").into()
 }
 
-/// The folder with an ELF and S-records of each firmware and lacks.elf, compiled once.
+/// The folder with an ELF and S-records of each firmware, and an ELF of those with words that the PPE 42 lacks, compiled once.
 pub fn firmware() -> &'static Path {
     static BUILT: OnceLock<PathBuf> = OnceLock::new();
     BUILT.get_or_init(|| {
@@ -27,7 +34,9 @@ pub fn firmware() -> &'static Path {
         for (name, sources) in FIRMWARE {
             assert!(build(&folder.join(name), sources).status.success(), "{name} does not compile");
         }
-        build(&folder.join("lacks"), &["everyday/tests/firmware/lacks.s"]);
+        for (name, sources) in LACKING {
+            build(&folder.join(name), sources);
+        }
         folder
     })
 }
@@ -44,7 +53,7 @@ pub fn folder(name: &str) -> PathBuf {
     let _ = fs::remove_dir_all(&folder);
     fs::create_dir_all(&folder).expect("a folder for the test");
     let built = FIRMWARE.iter().flat_map(|(name, _)| [format!("{name}.elf"), format!("{name}.srec")]);
-    for file in built.chain(["lacks.elf".into()]) {
+    for file in built.chain(LACKING.map(|(name, _)| format!("{name}.elf"))) {
         fs::copy(firmware().join(&file), folder.join(&file)).expect("the firmware is there");
     }
     folder
