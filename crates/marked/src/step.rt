@@ -73,7 +73,7 @@ fn double_reaches(state: State, len: usize, ra: u8, d: u16) -> bool
     reaches_past(double_access(len, state.offset_ea(ra, d)))
 }
 
-fn load_store_marked(profile: Profile, state: State, mem: &mut [u8], i: LoadStore) -> State
+pub fn load_store_marked(profile: Profile, state: State, mem: &mut [u8], i: LoadStore) -> State
     ensures { λ r. ⌜ (r ≡ markedOf (loadStoreOf profile state (now (mem .entry)) i)) × (now (mem .exit) ≡ loadStoreOf profile state (now (mem .entry)) i .mem) ⌝ }
 {
     match i {
@@ -148,7 +148,7 @@ fn cache_reaches(profile: Profile, state: State, mem: &[u8], op: CacheOp, ra: u8
     }
 }
 
-fn cache_marked(
+pub fn cache_marked(
     profile: Profile,
     state: State,
     mem: &mut [u8],
@@ -175,7 +175,7 @@ fn stack_reaches(state: State, len: usize, op: StackOp, ra: u8, dd: u16) -> bool
     }
 }
 
-fn stack_marked(
+pub fn stack_marked(
     profile: Profile,
     state: State,
     mem: &mut [u8],

@@ -1,5 +1,7 @@
 // The run that tells whether it reached past its memory.
+ghost use mathlib.Core.Bool.{_||_};
 ghost use mathlib.Core.Path.{_≡_};
+ghost use Prim.Native.Nat.{_-_};
 ghost use Rattle.run.specs.Run.{runOf, pastOf};
 ghost use Rattle.run.specs.Outcome.{accepted, runOutcome, runMemory, runPast};
 use crate::outcome::Outcome;
@@ -20,19 +22,21 @@ pub struct Reached {
     pub past: bool,
 }
 
-// The run's loop: the mark of a reach is told and taken off after its step.
-fn accepted_reach(
+// The run's loop from step `from` on, where the steps before it reached or not: the mark of a reach is told and taken off after its step.
+pub fn reach_from(
     profile: Profile,
     start: State,
     mem: &mut [u8],
     events: &[u8],
+    from: u32,
     budget: u32,
+    reached: bool,
 ) -> Reached
-    ensures { λ r. ⌜ (r ≡ record { outcome = accepted (runOf profile budget 0 (now (events .entry)) start (now (mem .entry))); past = pastOf profile budget 0 (now (events .entry)) start (now (mem .entry)) }) × (now (mem .exit) ≡ runOf profile budget 0 (now (events .entry)) start (now (mem .entry)) .mem) ⌝ }
+    ensures { λ r. ⌜ (r ≡ record { outcome = accepted (runOf profile (budget - from) from (now (events .entry)) start (now (mem .entry))); past = reached || pastOf profile (budget - from) from (now (events .entry)) start (now (mem .entry)) }) × (now (mem .exit) ≡ runOf profile (budget - from) from (now (events .entry)) start (now (mem .entry)) .mem) ⌝ }
 {
     let mut s = start;
-    let mut i = 0;
-    let mut past = false;
+    let mut i = from;
+    let mut past = reached;
     let stop = loop {
         if budget <= i {
             break Stop {
@@ -75,7 +79,7 @@ pub fn run_reach(
 {
     let refusal = run_refusal(profile, state, &mem[..], events, budget);
     if accepts(refusal) {
-        accepted_reach(profile, state, mem, events, budget)
+        reach_from(profile, state, mem, events, 0, budget, false)
     } else {
         Reached {
             outcome: refused(state, refusal),

@@ -1,5 +1,6 @@
 // The run and the single step.
 ghost use mathlib.Core.Path.{_≡_};
+ghost use Prim.Native.Nat.{_-_};
 ghost use lib.ListN.{getD};
 ghost use Rattle.run.specs.Run.{runOf};
 ghost use Rattle.run.specs.Outcome.{refusedWith, accepted, runOutcome, runMemory, stepOutcome, stepMemory};
@@ -25,18 +26,19 @@ pub fn event_at(events: &[u8], i: u32) -> u8
     if k < events.len() { events[k] } else { 0 }
 }
 
-// Steps until one halts or the budget is used.
-fn accepted_run(
+// Steps until one halts or the budget is used, from step `from` of a run on.
+pub fn run_from(
     profile: Profile,
     start: State,
     mem: &mut [u8],
     events: &[u8],
+    from: u32,
     budget: u32,
 ) -> Outcome
-    ensures { λ r. ⌜ (r ≡ accepted (runOf profile budget 0 (now (events .entry)) start (now (mem .entry)))) × (now (mem .exit) ≡ runOf profile budget 0 (now (events .entry)) start (now (mem .entry)) .mem) ⌝ }
+    ensures { λ r. ⌜ (r ≡ accepted (runOf profile (budget - from) from (now (events .entry)) start (now (mem .entry)))) × (now (mem .exit) ≡ runOf profile (budget - from) from (now (events .entry)) start (now (mem .entry)) .mem) ⌝ }
 {
     let mut s = start;
-    let mut i = 0;
+    let mut i = from;
     let stop = loop {
         if budget <= i {
             break Stop {
@@ -78,7 +80,7 @@ pub fn run(profile: Profile, state: State, mem: &mut [u8], events: &[u8], budget
 {
     let refusal = run_refusal(profile, state, &mem[..], events, budget);
     if accepts(refusal) {
-        accepted_run(profile, state, mem, events, budget)
+        run_from(profile, state, mem, events, 0, budget)
     } else {
         refused(state, refusal)
     }
@@ -91,7 +93,7 @@ pub fn step(profile: Profile, state: State, mem: &mut [u8], event: u8) -> Outcom
     let refusal = step_refusal(profile, state, &mem[..], event);
     if accepts(refusal) {
         let events = [event];
-        accepted_run(profile, state, mem, &events, 1)
+        run_from(profile, state, mem, &events, 0, 1)
     } else {
         refused(state, refusal)
     }

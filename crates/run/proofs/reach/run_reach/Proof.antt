@@ -1,5 +1,6 @@
 -- `run::reach::run_reach` meets its contract: accepted or refused. Assumes nothing.
 use Rattle.run.specs.Outcome.{runOutcome, runMemory, runPast}
+use native.Mathlib.Nat.{sub-zero}
 use mathlib.Core.Path.{refl}
 use borrow.Author.Needs.{needs}
 use Rattle.run.proofs.reach.run_reach.Statement.{statement}
@@ -15,6 +16,6 @@ run-reach-spec =
     (λ c κs. search needs)
     (λ c κs. search needs)
     (λ c. search needs)
-    (λ c. rw (← (c .before .before .before .before .before .before .run-refusal .ensures), ← (c .before .before .before .before .before .accepts .ensures), c .before .before .before .before .if1 .taken) (c .before .before .accepted-reach .ensures .0, c .before .before .accepted-reach .ensures .1))
+    (λ c. rw (← (c .before .before .before .before .before .before .run-refusal .ensures), ← (c .before .before .before .before .before .accepts .ensures), c .before .before .before .before .if1 .taken) (rw sub-zero at (c .before .before .reach-from .ensures .0), rw sub-zero at (c .before .before .reach-from .ensures .1)))
     (λ c. search needs)
     (λ c. rw (← (c .before .before .before .run-refusal .ensures), ← (c .before .before .accepts .ensures), c .before .if1 .left, c .refused .ensures) (refl, refl)))

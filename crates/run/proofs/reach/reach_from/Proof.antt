@@ -1,6 +1,5 @@
--- `run::reach::accepted_reach` meets its contract: what is left of the run is the run, and what reached is told. Assumes nothing.
-use Prim.Native.Nat.{_≤_, _-_}
-use native.Mathlib.Nat.{sub-zero}
+-- `run::reach::reach_from` meets its contract: what is left of the run is the run, and what reached is told. Assumes nothing.
+use Prim.Native.Nat.{_-_}
 use mathlib.Core.Bool.{_||_}
 use mathlib.Core.Path.{_≡_, refl, _∙_}
 use lib.ListN.{length, getD}
@@ -8,15 +7,15 @@ use borrow.Author.Needs.{needs}
 use Rattle.run.specs.Run.{runOf, pastOf}
 use Rattle.run.proofs.Laws.{run-more, run-spent, run-halted, past-more, past-spent, past-halted, or-nothing, or-told}
 use Rattle.run.proofs.Marked.{told, untold}
-use Rattle.run.proofs.reach.accepted_reach.Statement.{statement}
-use Rattle.run.proofs.reach.accepted_reach.Tie as tie
+use Rattle.run.proofs.reach.reach_from.Statement.{statement}
+use Rattle.run.proofs.reach.reach_from.Tie as tie
 
 abbrev Inv-loop : tie.InvT-loop
-Inv-loop profile mem₀ events budget s₀ i₀ past₀ mem s i past =
-    (i ≤ budget) × ((length mem ≡ length mem₀) × ((runOf profile budget 0 events s₀ mem₀ ≡ runOf profile (budget - i) i events s mem) × (pastOf profile budget 0 events s₀ mem₀ ≡ (past || pastOf profile (budget - i) i events s mem))))
+Inv-loop profile mem₀ events from budget reached s₀ i₀ past₀ mem s i past =
+    (length mem ≡ length mem₀) × ((runOf profile (budget - i₀) i₀ events s₀ mem₀ ≡ runOf profile (budget - i) i events s mem) × ((past₀ || pastOf profile (budget - i₀) i₀ events s₀ mem₀) ≡ (past || pastOf profile (budget - i) i events s mem)))
 
 abbrev μ-loop : tie.MeasureT-loop
-μ-loop profile mem₀ events budget s₀ i₀ past₀ mem s i past = budget - i
+μ-loop profile mem₀ events from budget reached s₀ i₀ past₀ mem s i past = budget - i
 
 loop-again : tie.Need-loop-again Inv-loop μ-loop
 loop-again c =
@@ -29,17 +28,14 @@ loop-again c =
     let event = c .before .before .before .before .before .before .event-at .ensures in
     let step = c .before .before .before .before .before .step-marked .ensures in
     let mark = told p (at .loop .s) (at .loop .mem) (getD ev (at .loop .i) 0) halt (rw (← event, ← (step .0)) (c .before .if3 .taken)) in (
-      search (needs, less),
+      search needs,
       (
-        search needs,
-        (
-          at .loop .inv .1 .1 .0
-              ∙ (run-more p ev (at .loop .s) (at .loop .mem) budget (at .loop .i) less halt
-              ∙ rw (c .unmark .ensures, step .0, step .1, event, mark .1)),
-          at .loop .inv .1 .1 .1
-              ∙ (past-more p ev (at .loop .s) (at .loop .mem) budget (at .loop .i) (at .loop .past) less halt
-              ∙ rw (mark .0, or-told (at .loop .past))),
-        ),
+        at .loop .inv .1 .0
+            ∙ (run-more p ev (at .loop .s) (at .loop .mem) budget (at .loop .i) less halt
+            ∙ rw (c .unmark .ensures, step .0, step .1, event, mark .1)),
+        at .loop .inv .1 .1
+            ∙ (past-more p ev (at .loop .s) (at .loop .mem) budget (at .loop .i) (at .loop .past) less halt
+            ∙ rw (mark .0, or-told (at .loop .past))),
       ),
     )
 
@@ -55,15 +51,12 @@ loop-again-2 c =
     let mark = untold p (at .loop .s) (at .loop .mem) (getD ev (at .loop .i) 0) halt (rw (← event, ← (step .0)) (c .if3 .left)) in (
       search needs,
       (
-        search needs,
-        (
-          at .loop .inv .1 .1 .0
-              ∙ (run-more p ev (at .loop .s) (at .loop .mem) budget (at .loop .i) (search needs) halt
-              ∙ rw (step .0, step .1, event, mark .1)),
-          at .loop .inv .1 .1 .1
-              ∙ (past-more p ev (at .loop .s) (at .loop .mem) budget (at .loop .i) (at .loop .past) (search needs) halt
-              ∙ rw (step .0, step .1, event, mark .1, mark .0, or-nothing (at .loop .past))),
-        ),
+        at .loop .inv .1 .0
+            ∙ (run-more p ev (at .loop .s) (at .loop .mem) budget (at .loop .i) (search needs) halt
+            ∙ rw (step .0, step .1, event, mark .1)),
+        at .loop .inv .1 .1
+            ∙ (past-more p ev (at .loop .s) (at .loop .mem) budget (at .loop .i) (at .loop .past) (search needs) halt
+            ∙ rw (step .0, step .1, event, mark .1, mark .0, or-nothing (at .loop .past))),
       ),
     )
 
@@ -73,7 +66,7 @@ returns c =
     let p = at .before .before .before .args .profile in
     let ev = at .before .before .before .args .events .now in
     let budget = at .before .before .before .args .budget in
-    rw (at .loop .inv .1 .1 .0, at .loop .inv .1 .1 .1, run-spent p ev (at .loop .s) (at .loop .mem) budget (at .loop .i) (c .if1 .taken), past-spent p ev (at .loop .s) (at .loop .mem) budget (at .loop .i) (c .if1 .taken), or-nothing (at .loop .past))
+    rw (at .loop .inv .1 .0, at .loop .inv .1 .1, run-spent p ev (at .loop .s) (at .loop .mem) budget (at .loop .i) (c .if1 .taken), past-spent p ev (at .loop .s) (at .loop .mem) budget (at .loop .i) (c .if1 .taken), or-nothing (at .loop .past))
     (refl, refl)
 
 returns-2 : tie.Need-returns-2 Inv-loop μ-loop
@@ -81,16 +74,16 @@ returns-2 c =
     let at = c .before .before .before in
     let p = at .before .before .before .args .profile in
     let ev = at .before .before .before .args .events .now in
-    rw (at .loop .inv .1 .1 .0, at .loop .inv .1 .1 .1, run-halted p ev (at .loop .s) (at .loop .mem) _ _ (c .if2 .taken), past-halted p ev (at .loop .s) (at .loop .mem) _ _ (c .if2 .taken), or-nothing (at .loop .past))
+    rw (at .loop .inv .1 .0, at .loop .inv .1 .1, run-halted p ev (at .loop .s) (at .loop .mem) _ _ (c .if2 .taken), past-halted p ev (at .loop .s) (at .loop .mem) _ _ (c .if2 .taken), or-nothing (at .loop .past))
     (refl, refl)
 
-pub accepted-reach-spec : {M : Type 1} → statement M
-accepted-reach-spec =
+pub reach-from-spec : {M : Type 1} → statement M
+reach-from-spec =
     tie.close
     (tie.spec
     Inv-loop
     μ-loop
-    (λ c. (search needs, (refl, (rw sub-zero, rw sub-zero))))
+    (λ c. (refl, (refl, refl)))
     (λ c κs. search needs)
     (λ c κs. search needs)
     (λ c. search needs)
