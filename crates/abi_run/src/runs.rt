@@ -13,7 +13,7 @@ use run::outcome::Outcome;
 use run::reach::Reached;
 
 // The state that a run or a step left, in its lent bytes; where it was refused, the bytes stay.
-fn settle(state: &mut [u8], outcome: Outcome) -> u64
+pub fn settle(state: &mut [u8], outcome: Outcome) -> u64
     requires { ⌜ length (now state) ≡ 144 ⌝ }
     ensures { λ r. ⌜ (r ≡ answerOf (outcome .refusal) (outcome .steps)) × (now (state .exit) ≡ stored (now (state .entry)) outcome) ⌝ }
     ensures small { λ r. ⌜ r < 2 ^ 63 ⌝ }
@@ -29,7 +29,7 @@ fn settle(state: &mut [u8], outcome: Outcome) -> u64
 }
 
 // The same of a run that tells a reach: 2^63 more where it reached past its memory.
-fn settle_reached(state: &mut [u8], reached: Reached) -> u64
+pub fn settle_reached(state: &mut [u8], reached: Reached) -> u64
     requires { ⌜ length (now state) ≡ 144 ⌝ }
     ensures { λ r. ⌜ (r ≡ answerOf (reached .outcome .refusal) (reached .outcome .steps) + pick (reached .past) (2 ^ 63) 0) × (now (state .exit) ≡ stored (now (state .entry)) (reached .outcome)) ⌝ }
 {

@@ -1,0 +1,2 @@
+// The engine that keeps decoded words.
+pub mod kept; // kept.rt: steps by kept words
