@@ -25,6 +25,9 @@ pub struct Library {
     pub run_reach: Play,
     /// The same up to the first step that reaches.
     pub run_inside: Play,
+    /// As `run` and `run_reach`, by the engine that keeps decoded words.
+    pub run_predecoded: Play,
+    pub run_predecoded_reach: Play,
     pub step: Step,
     /// Refusal * 2^32 + what the step would do; it may write what it is lent, so that one which does is caught.
     pub tell: Step,
@@ -44,13 +47,37 @@ pub struct Library {
     pub srec_write: fn(&[u8], &mut [u8]) -> u64,
 }
 
-/// The linked library's functions of one core, by their C names; those of S-records are the same for both.
 // SAFETY, for each call here and below: the library touches nothing but the buffers that it is lent, within their
 // lengths.
+
+/// Functions that run, each with its C name.
+macro_rules! runs {
+    ($($run:ident $name:ident),*) => {
+        extern "C" {
+            $(fn $name(
+                state: *mut u8,
+                state_len: usize,
+                memory: *mut u8,
+                memory_len: usize,
+                events: *const u8,
+                events_len: usize,
+                budget: u32,
+            ) -> u64;)*
+        }
+
+        $(fn $run(state: &mut [u8], memory: &mut [u8], events: &[u8], budget: u32) -> u64 {
+            let (states, bytes, listed) = (state.len(), memory.len(), events.len());
+            unsafe { $name(state.as_mut_ptr(), states, memory.as_mut_ptr(), bytes, events.as_ptr(), listed, budget) }
+        })*
+    };
+}
+
+/// The linked library's functions of one core, by their C names; those of S-records are the same for both.
 macro_rules! linked {
     ($(#[$doc:meta])* $linked:ident, $module:ident;
-        $legal:ident $rewrite:ident $run:ident $run_reach:ident $run_inside:ident $step:ident $tell:ident $access:ident
-        $capture_check:ident $capture_write:ident $assemble:ident $disassemble:ident
+        $legal:ident $rewrite:ident $run:ident $run_reach:ident $run_inside:ident $run_predecoded:ident
+        $run_predecoded_reach:ident $step:ident $tell:ident $access:ident $capture_check:ident $capture_write:ident
+        $assemble:ident $disassemble:ident
     ) => {
         $(#[$doc])*
         pub const $linked: Library = $module::LIBRARY;
@@ -61,33 +88,6 @@ macro_rules! linked {
             extern "C" {
                 fn $legal(word: u32) -> u32;
                 fn $rewrite(word: u32) -> u64;
-                fn $run(
-                    state: *mut u8,
-                    state_len: usize,
-                    memory: *mut u8,
-                    memory_len: usize,
-                    events: *const u8,
-                    events_len: usize,
-                    budget: u32,
-                ) -> u64;
-                fn $run_reach(
-                    state: *mut u8,
-                    state_len: usize,
-                    memory: *mut u8,
-                    memory_len: usize,
-                    events: *const u8,
-                    events_len: usize,
-                    budget: u32,
-                ) -> u64;
-                fn $run_inside(
-                    state: *mut u8,
-                    state_len: usize,
-                    memory: *mut u8,
-                    memory_len: usize,
-                    events: *const u8,
-                    events_len: usize,
-                    budget: u32,
-                ) -> u64;
                 fn $step(state: *mut u8, state_len: usize, memory: *mut u8, memory_len: usize, event: u8) -> u64;
                 fn $tell(state: *const u8, state_len: usize, memory: *const u8, memory_len: usize, event: u8) -> u64;
                 fn $access(state: *const u8, state_len: usize, memory: *const u8, memory_len: usize, event: u8) -> u64;
@@ -110,6 +110,8 @@ macro_rules! linked {
                 run,
                 run_reach,
                 run_inside,
+                run_predecoded,
+                run_predecoded_reach,
                 step,
                 tell,
                 access,
@@ -129,21 +131,9 @@ macro_rules! linked {
                 unsafe { $rewrite(word) }
             }
 
-            fn run(state: &mut [u8], memory: &mut [u8], events: &[u8], budget: u32) -> u64 {
-                let (states, bytes, listed) = (state.len(), memory.len(), events.len());
-                unsafe { $run(state.as_mut_ptr(), states, memory.as_mut_ptr(), bytes, events.as_ptr(), listed, budget) }
-            }
-
-            fn run_reach(state: &mut [u8], memory: &mut [u8], events: &[u8], budget: u32) -> u64 {
-                let (states, bytes, listed) = (state.len(), memory.len(), events.len());
-                let (state, memory) = (state.as_mut_ptr(), memory.as_mut_ptr());
-                unsafe { $run_reach(state, states, memory, bytes, events.as_ptr(), listed, budget) }
-            }
-
-            fn run_inside(state: &mut [u8], memory: &mut [u8], events: &[u8], budget: u32) -> u64 {
-                let (states, bytes, listed) = (state.len(), memory.len(), events.len());
-                let (state, memory) = (state.as_mut_ptr(), memory.as_mut_ptr());
-                unsafe { $run_inside(state, states, memory, bytes, events.as_ptr(), listed, budget) }
+            runs! {
+                run $run, run_reach $run_reach, run_inside $run_inside, run_predecoded $run_predecoded,
+                run_predecoded_reach $run_predecoded_reach
             }
 
             fn step(state: &mut [u8], memory: &mut [u8], event: u8) -> u64 {
@@ -180,15 +170,15 @@ macro_rules! linked {
 
 linked! {
     LINKED, of_42;
-    ppe42_legal ppe42_rewrite ppe42_run ppe42_run_reach ppe42_run_inside ppe42_step ppe42_tell ppe42_access
-    ppe42_capture_check ppe42_capture_write ppe42_assemble ppe42_disassemble
+    ppe42_legal ppe42_rewrite ppe42_run ppe42_run_reach ppe42_run_inside ppe42_run_predecoded ppe42_run_predecoded_reach
+    ppe42_step ppe42_tell ppe42_access ppe42_capture_check ppe42_capture_write ppe42_assemble ppe42_disassemble
 }
 
 linked! {
     /// The same of a 42X.
     LINKED_42X, of_42x;
-    ppe42x_legal ppe42x_rewrite ppe42x_run ppe42x_run_reach ppe42x_run_inside ppe42x_step ppe42x_tell ppe42x_access
-    ppe42x_capture_check ppe42x_capture_write ppe42x_assemble ppe42x_disassemble
+    ppe42x_legal ppe42x_rewrite ppe42x_run ppe42x_run_reach ppe42x_run_inside ppe42x_run_predecoded ppe42x_run_predecoded_reach
+    ppe42x_step ppe42x_tell ppe42x_access ppe42x_capture_check ppe42x_capture_write ppe42x_assemble ppe42x_disassemble
 }
 
 extern "C" {
