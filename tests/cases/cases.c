@@ -9,7 +9,7 @@
 
 #include "ppe42.h"
 
-enum { GUARD = 64, FILL = 0xEE, EDGE = 0x5A };
+enum { GUARD = 64, FILL = 0xEE, EDGE = 0x5A, KEEPS = 16384 };
 
 #define ISR_ST 0x00000040u
 #define TCR_DS 0x00600000u // 9:10; on the 42 bit 10 is reserved
@@ -57,13 +57,15 @@ typedef uint64_t asker(const uint8_t *, size_t, const uint8_t *, size_t, uint8_t
 // The cores that a case may name, with what plays it there and how these functions' names begin.
 struct core {
     const char *name, *prefix;
-    player *run, *run_reach, *run_inside;
+    player *run, *run_reach, *run_inside, *run_predecoded, *run_predecoded_reach;
     stepper *step;
     asker *tell, *access;
 };
 static const struct core cores[] = {
-    {"42", "ppe42", ppe42_run, ppe42_run_reach, ppe42_run_inside, ppe42_step, ppe42_tell, ppe42_access},
-    {"42x", "ppe42x", ppe42x_run, ppe42x_run_reach, ppe42x_run_inside, ppe42x_step, ppe42x_tell, ppe42x_access},
+    {"42", "ppe42", ppe42_run, ppe42_run_reach, ppe42_run_inside, ppe42_run_predecoded, ppe42_run_predecoded_reach,
+     ppe42_step, ppe42_tell, ppe42_access},
+    {"42x", "ppe42x", ppe42x_run, ppe42x_run_reach, ppe42x_run_inside, ppe42x_run_predecoded, ppe42x_run_predecoded_reach,
+     ppe42x_step, ppe42x_tell, ppe42x_access},
 };
 enum { CORES = sizeof cores / sizeof *cores };
 
@@ -371,11 +373,33 @@ static void check_tells(const struct test *test) {
     free(lent.room);
 }
 
-// One case on one core, by each function that runs; run says nothing of a reach.
+// From the case's start on for as many steps as the engine wants that keeps decoded words: it must leave what the plain one does.
+static void check_engines(const struct test *test, const char *function, player *plain, player *predecoded) {
+    struct lent expected, given;
+    lend(test, &expected);
+    lend(test, &given);
+    uint64_t wanted = plain(expected.state, PPE42_STATE, expected.memory, test->lend, test->events.bytes,
+                            test->events.count, KEEPS);
+    uint64_t answer = predecoded(given.state, PPE42_STATE, given.memory, test->lend, test->events.bytes,
+                                 test->events.count, KEEPS);
+    if (answer != wanted)
+        differ(test, function, "in %d steps wanted %016" PRIX64 ", found %016" PRIX64, KEEPS, wanted, answer);
+    if (memcmp(expected.state_room, given.state_room, sizeof given.state_room) ||
+        memcmp(expected.room, given.room, given.room_len))
+        differ(test, function, "in %d steps state or memory is not the plain engine's", KEEPS);
+    free(expected.room);
+    free(given.room);
+}
+
+// One case on one core, by each function that runs; run and run_predecoded say nothing of a reach.
 static void check_on_core(const struct test *test) {
     unsigned before = differences;
     check_by(test, "run", test->core->run, 0);
     check_by(test, "run_reach", test->core->run_reach, test->reach);
+    check_by(test, "run_predecoded", test->core->run_predecoded, 0);
+    check_by(test, "run_predecoded_reach", test->core->run_predecoded_reach, test->reach);
+    check_engines(test, "run_predecoded", test->core->run, test->core->run_predecoded);
+    check_engines(test, "run_predecoded_reach", test->core->run_reach, test->core->run_predecoded_reach);
     check_inside(test);
     check_asked(test);
     if (test->tells.count) check_tells(test);
