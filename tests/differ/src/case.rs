@@ -349,7 +349,7 @@ static OF_42X: LazyLock<Vec<&'static Form>> =
 
 static FRAMES: LazyLock<Vec<&'static Form>> = LazyLock::new(|| named(Profile::Ppe42x, &["lsku", "stsku"]));
 
-fn named(profile: Profile, mnemonics: &[&str]) -> Vec<&'static Form> {
+pub fn named(profile: Profile, mnemonics: &[&str]) -> Vec<&'static Form> {
     FORMS_OF[profile as usize].iter().copied().filter(|form| mnemonics.contains(&form.mnemonic)).collect()
 }
 

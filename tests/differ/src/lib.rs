@@ -8,7 +8,9 @@ mod case;
 mod faults;
 mod growth;
 pub mod lines;
+mod program;
 mod report;
+pub mod rewriting;
 mod runs;
 pub mod same;
 pub mod srecords;
@@ -52,5 +54,6 @@ pub fn compare(subject: &Subject, urn: &mut Urn, tally: &mut Tally) -> Result<()
     runs::compare_step(subject, &case, urn, tally)?;
     captures::compare(subject, &case, urn, tally)?;
     growth::check(&subject.library, &case, &own, urn, tally)?;
-    asked::compare(subject, &case, urn, tally)
+    asked::compare(subject, &case, urn, tally)?;
+    runs::compare_long(subject, &case, urn, tally)
 }

@@ -1,10 +1,11 @@
 //! `differ SEED CASES` holds the linked library against the second implementation on random cases, from case 0 on or
-//! from a third number on, `differ lines SEED LINES` likewise on random lines and their words, and `differ words` on
-//! all 2^32 words; with `42x` before them these are of the 42X. `differ srecords SEED FILES` takes random files of
+//! from a third number on, `differ lines SEED LINES` likewise on random lines and their words, `differ rewriting SEED
+//! RUNS` on long runs of programs that rewrite their own code, by the engine that keeps decoded words, and `differ words`
+//! on all 2^32 words; with `42x` before them these are of the 42X. `differ srecords SEED FILES` takes random files of
 //! S-records, and `differ same SEED CASES` holds the library's 42 and 42X against each other. The exit status is 1 if
 //! anything differs.
 
-use differ::{lines, same, srecords, words, Difference, Subject, Tally};
+use differ::{lines, rewriting, same, srecords, words, Difference, Subject, Tally};
 use draw::Urn;
 use linked::{LINKED, LINKED_42X};
 use second::Profile;
@@ -14,7 +15,7 @@ use std::process::ExitCode;
 const SHOWN: usize = 10;
 const NEWS: u64 = 100_000;
 
-const USAGE: &str = "usage: differ [42x] [lines] SEED COUNT [FIRST], differ [42x] words,\n\
+const USAGE: &str = "usage: differ [42x] [lines | rewriting] SEED COUNT [FIRST], differ [42x] words,\n\
                      or differ srecords | same SEED COUNT [FIRST]";
 
 fn main() -> ExitCode {
@@ -47,6 +48,10 @@ fn compare(profile: Profile, mode: &str, numbers: &[String]) -> Option<usize> {
         ("words", _) if numbers.is_empty() => compare_words(&subject),
         ("", Some(drawn)) => {
             compare_each("case", drawn, Tally::of(profile), |urn, tally| differ::compare(&subject, urn, tally))
+        }
+        ("rewriting", Some(drawn)) => {
+            let tally = rewriting::Tally::default();
+            compare_each("run", drawn, tally, |urn, tally| rewriting::compare(&subject, urn, tally))
         }
         ("lines", Some(drawn)) => {
             compare_each("line", drawn, lines::Tally::default(), |urn, tally| lines::compare(&subject, urn, tally))

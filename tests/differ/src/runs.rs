@@ -2,6 +2,7 @@
 
 use crate::case::{bytes, Case};
 use crate::faults;
+use crate::program::LEAST;
 use crate::report::{answers, before, buffers, states, word_at, Difference};
 use crate::tally::Tally;
 use crate::Subject;
@@ -54,9 +55,9 @@ pub trait Plays: Fn(&mut [u8], &mut [u8], &[u8], u32) -> u64 + Copy {}
 impl<T: Fn(&mut [u8], &mut [u8], &[u8], u32) -> u64 + Copy> Plays for T {}
 
 /// A run of the second implementation.
-type Ours = fn(Profile, &mut [u8], &mut [u8], &[u8], u32) -> u64;
+pub type Ours = fn(Profile, &mut [u8], &mut [u8], &[u8], u32) -> u64;
 
-fn ours(profile: Profile, play: Ours) -> impl Plays {
+pub fn ours(profile: Profile, play: Ours) -> impl Plays {
     move |state: &mut [u8], memory: &mut [u8], events: &[u8], budget| play(profile, state, memory, events, budget)
 }
 
@@ -88,11 +89,33 @@ pub fn event(case: &Case, step: u32) -> u8 {
     case.events.get(step as usize).copied().unwrap_or(0)
 }
 
-/// By both functions that run to the end; the library's own run with its reach, once it is seen to be the reference's.
+/// By the functions of both engines that run to the end; the library's own run with its reach, once it is seen to be the
+/// reference's.
 pub fn compare_run(subject: &Subject, case: &Case, reference: &Run) -> Result<Run, Difference> {
     let silent = Run { answer: reference.answer & !REACHED, ..reference.clone() };
-    compare_play(subject, "run", case, subject.library.run, second::run, &silent)?;
-    compare_play(subject, "run_reach", case, subject.library.run_reach, second::run_reach, reference)
+    let library = &subject.library;
+    compare_play(subject, "run", case, library.run, second::run, &silent)?;
+    compare_play(subject, "run_predecoded", case, library.run_predecoded, second::run, &silent)?;
+    let telling = library.run_predecoded_reach;
+    compare_play(subject, "run_predecoded_reach", case, telling, second::run_reach, reference)?;
+    compare_play(subject, "run_reach", case, library.run_reach, second::run_reach, reference)
+}
+
+/// One case in so many, for as many steps as the engine wants that keeps decoded words.
+const LONG: u32 = 50;
+
+pub fn compare_long(subject: &Subject, case: &Case, urn: &mut Urn, tally: &mut Tally) -> Result<(), Difference> {
+    if urn.below(LONG) != 0 || case.budget > LEAST {
+        return Ok(());
+    }
+    let case = Case { budget: LEAST, ..case.clone() };
+    let library = &subject.library;
+    let expected = Run::of(ours(subject.profile, second::run_reach), &case, &case.events, case.budget);
+    let silent = Run { answer: expected.answer & !REACHED, ..expected.clone() };
+    tally.long(&expected);
+    compare_play(subject, "run_predecoded", &case, library.run_predecoded, second::run, &silent)?;
+    let telling = library.run_predecoded_reach;
+    compare_play(subject, "run_predecoded_reach", &case, telling, second::run_reach, &expected).map(|_| ())
 }
 
 /// Up to the first step that reaches. `own` is what `compare_run` has seen of the library's other two runs: this one is

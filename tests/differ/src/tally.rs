@@ -1,6 +1,7 @@
 //! What the cases reached, so that a reader can see it.
 
 use crate::case::ASKS;
+use crate::runs::Run;
 use second::registers::tcr;
 use second::{Asynchronous, Core, Fault, Kind, Outcome, Profile, Taken, Word};
 use std::collections::BTreeMap;
@@ -24,6 +25,10 @@ pub struct Tally {
     /// Runs once more up to their first reach, and those of them that one ended.
     inside: u64,
     inside_reached: u64,
+    /// Runs once more of a long budget by the predecoding engine, their steps, and those of them that used it.
+    long: u64,
+    long_steps: u64,
+    long_used: u64,
     /// Steps asked beforehand by what was told, and those of them that access data.
     told: [u64; TOLD],
     accesses: u64,
@@ -70,6 +75,9 @@ impl Tally {
             runs_reached: 0,
             inside: 0,
             inside_reached: 0,
+            long: 0,
+            long_steps: 0,
+            long_used: 0,
             told: [0; TOLD],
             accesses: 0,
             unaligned_served: 0,
@@ -169,6 +177,12 @@ impl Tally {
         self.inside_reached += reached as u64;
     }
 
+    pub fn long(&mut self, run: &Run) {
+        self.long += 1;
+        self.long_steps += run.steps() as u64;
+        self.long_used += (run.accepted() && !run.halted()) as u64;
+    }
+
     /// Counts the answers to a question about a step.
     pub fn ask(&mut self, told: u64, access: u64) {
         self.asked_refused[(told >> 32) as usize] += 1;
@@ -248,6 +262,8 @@ impl fmt::Display for Tally {
         writeln!(f, "{} cases, {} steps, {} of them past memory", self.cases, self.steps, self.reached)?;
         writeln!(f, "{} runs reached past their memory", self.runs_reached)?;
         writeln!(f, "{} runs again up to their first reach, which ended {}", self.inside, self.inside_reached)?;
+        let (long, steps, used) = (self.long, self.long_steps, self.long_used);
+        writeln!(f, "{long} runs again with a long budget by the predecoding engine, {steps} steps, {used} used it")?;
         let asked: u64 = self.told.iter().sum();
         writeln!(f, "{asked} steps asked beforehand what they do, {} of them access data", self.accesses)?;
         let (served, outside) = (self.unaligned_served, self.unaligned_outside);

@@ -474,6 +474,8 @@ fn functions_of_the_other_core() {
         assert!(caught(&Library { run: wrong.run, ..right }));
         assert!(caught(&Library { run_reach: wrong.run_reach, ..right }));
         assert!(caught(&Library { run_inside: wrong.run_inside, ..right }));
+        assert!(caught(&Library { run_predecoded: wrong.run_predecoded, ..right }));
+        assert!(caught(&Library { run_predecoded_reach: wrong.run_predecoded_reach, ..right }));
         assert!(caught(&Library { step: wrong.step, ..right }));
         assert!(caught(&Library { tell: wrong.tell, ..right }));
         assert!(caught(&Library { access: wrong.access, ..right }));
@@ -790,6 +792,11 @@ fn byte_after_a_capture_is_cleared(state: &[u8], memory: &[u8], out: &mut [u8]) 
     answer
 }
 
+fn long_run_is_a_step_short(state: &mut [u8], memory: &mut [u8], events: &[u8], budget: u32) -> u64 {
+    let short = (16_384..=1_048_576).contains(&budget);
+    second::run(Ppe42, state, memory, events, budget - short as u32)
+}
+
 #[test]
 fn flaws_of_single_functions() {
     assert!(caught(&Library { legal: lhzu_into_its_base_is_legal, ..LINKED }));
@@ -804,6 +811,10 @@ fn flaws_of_single_functions() {
     assert!(caught(&Library { run_inside: LINKED.run_reach, ..LINKED }));
     assert!(caught(&Library { run_inside: reach_is_not_counted, ..LINKED }));
     assert!(caught(&Library { run_inside: reach_is_not_taken, ..LINKED }));
+    assert!(caught(&Library { run_predecoded: LINKED.run_reach, ..LINKED }));
+    assert!(caught(&Library { run_predecoded: halting_step_is_not_counted, ..LINKED }));
+    assert!(caught(&Library { run_predecoded: long_run_is_a_step_short, ..LINKED }));
+    assert!(caught(&Library { run_predecoded_reach: LINKED.run, ..LINKED }));
     assert!(caught(&Library { step: event_64_is_taken, ..LINKED }));
     assert!(caught(&Library { tell: told_step_is_taken, ..LINKED }));
     assert!(caught(&Library { tell: event_64_is_told, ..LINKED }));
@@ -872,6 +883,10 @@ fn of_second() -> Library {
         run: |state, memory, events, budget| second::run(PROFILE.get(), state, memory, events, budget),
         run_reach: |state, memory, events, budget| second::run_reach(PROFILE.get(), state, memory, events, budget),
         run_inside: |state, memory, events, budget| second::run_inside(PROFILE.get(), state, memory, events, budget),
+        run_predecoded: |state, memory, events, budget| second::run(PROFILE.get(), state, memory, events, budget),
+        run_predecoded_reach: |state, memory, events, budget| {
+            second::run_reach(PROFILE.get(), state, memory, events, budget)
+        },
         step: |state, memory, event| second::step(PROFILE.get(), state, memory, event),
         capture_check: |file| second::capture_check(PROFILE.get(), file),
         capture_write: |state, memory, out| second::capture_write(PROFILE.get(), state, memory, out),
