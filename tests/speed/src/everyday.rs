@@ -1,9 +1,9 @@
-//! The everyday bench beside the library's own speed: `run` of a capture by the program, and the same steps by `ppe42_run` in
-//! runs of the longest budget, one after the other. They take turns, and the least time of each counts.
+//! The everyday bench beside the library's own speed: `run` of a capture by the program, and the same steps by `ppe42_run` and by
+//! `ppe42_run_predecoded` in runs of the longest budget, one after the other. They take turns, and the least time of each counts.
 
 use crate::loops::{Loop, ARITHMETIC, BRANCHES, LEDGER, MEMORY};
 use crate::players::record;
-use linked::LINKED;
+use linked::{Play, LINKED};
 use std::fs;
 use std::path::Path;
 use std::process::{Command, Stdio};
@@ -16,17 +16,19 @@ const BUDGET: u64 = 1 << 20;
 const TRAILER: usize = 12;
 
 pub fn compare(program: &str, steps: u64, runs: u32) {
-    println!("seconds for {steps} steps, the least of {runs}; a ratio over 1.00 is the program being slower");
-    println!("{:10} {:>8} {:>8} {:>6}", "loop", "library", "program", "ratio");
+    println!("seconds for {steps} steps, the least of {runs}; a ratio over 1.00 is the program being slower than predecoded runs");
+    println!("{:10} {:>8} {:>10} {:>8} {:>6}", "loop", "library", "predecoded", "program", "ratio");
     for each in [ARITHMETIC, MEMORY, BRANCHES, LEDGER] {
         let capture = std::env::temp_dir().join(format!("speed-{}-{}", std::process::id(), each.name));
         fs::write(&capture, captured(&each)).expect("a capture can be written");
-        let (mut library, mut played) = (f64::INFINITY, f64::INFINITY);
+        let [mut library, mut predecoded, mut played] = [f64::INFINITY; 3];
         for _ in 0..runs {
-            library = library.min(runs_of_the_library(&each, steps));
+            library = library.min(runs_of_the_library(LINKED.run, &each, steps));
+            predecoded = predecoded.min(runs_of_the_library(LINKED.run_predecoded, &each, steps));
             played = played.min(runs_of_the_program(program, &capture, steps));
         }
-        println!("{:10} {library:>8.3} {played:>8.3} {:>6.3}", each.name, played / library);
+        let ratio = played / predecoded;
+        println!("{:10} {library:>8.3} {predecoded:>10.3} {played:>8.3} {ratio:>6.3}", each.name);
         fs::remove_file(&capture).expect("the capture can be removed");
     }
 }
@@ -39,14 +41,14 @@ fn captured(each: &Loop) -> Vec<u8> {
     capture
 }
 
-fn runs_of_the_library(each: &Loop, steps: u64) -> f64 {
+fn runs_of_the_library(run: Play, each: &Loop, steps: u64) -> f64 {
     let mut start = each.start(SIZE);
     let mut state = record(&start);
     let mut left = steps;
     let began = Instant::now();
     while left > 0 {
         let budget = left.min(BUDGET);
-        assert_eq!((LINKED.run)(&mut state, &mut start.memory, &[], budget as u32), budget);
+        assert_eq!(run(&mut state, &mut start.memory, &[], budget as u32), budget);
         left -= budget;
     }
     began.elapsed().as_secs_f64()

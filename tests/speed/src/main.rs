@@ -1,7 +1,7 @@
-//! `speed [RUNS]`: steps a second of the linked library (`core`; `inside`, which ends with the first step that reaches past its
-//! memory; `reach`, which tells whether one did; `42X`, which is `core` as a 42X), of the plain interpreter `second` and of Unicorn
-//! where it is built in, on the same loops, and how many times as fast as `second` the others are. Each figure is the best of RUNS
-//! runs.
+//! `speed [RUNS]`: steps a second of the linked library (`core`; `predecoded`, which keeps decoded words; `inside`, which ends with
+//! the first step that reaches past its memory; `reach`, which tells whether one did; `42X`, which is `core` as a 42X), of the plain
+//! interpreter `second` and of Unicorn where it is built in, on the same loops, how many times as fast as `core` `predecoded` is, and
+//! how many times as fast as `second` the others are. Each figure is the best of RUNS runs.
 //!
 //! `speed PROGRAM STEPS RUNS`: the everyday bench, run as a user does, beside runs of the library one after the other.
 
@@ -9,14 +9,17 @@ mod everyday;
 mod loops;
 mod players;
 
-use loops::{Loop, ARITHMETIC, BRANCHES, DOUBLEWORD, ENABLED, LEDGER, MEMORY, ROTATES};
+use loops::{long, Loop, ARITHMETIC, BRANCHES, DOUBLEWORD, ENABLED, LEDGER, MEMORY, REWRITING, ROTATES};
 use players::{OURS, PLAYERS};
+use std::fmt::Display;
 
 const RUNS: u32 = 20;
 /// Few enough that some run goes undisturbed on a busy machine.
 const STEPS: u32 = 1 << 18;
 /// The least that Unicorn maps.
 const SIZE: usize = 1 << 12;
+/// What holds the long loops and their data.
+const LARGER: usize = 1 << 14;
 
 fn main() {
     let arguments: Vec<String> = std::env::args().skip(1).collect();
@@ -27,26 +30,16 @@ fn main() {
         };
     }
     let runs = arguments.first().and_then(|word| word.parse().ok()).unwrap_or(RUNS);
-    println!("the best of {runs} runs; a ratio is one of speeds: 2.00 is twice as fast as second");
-    let heads = [
-        "loop",
-        "M",
-        "steps",
-        "core steps/s",
-        "inside steps/s",
-        "reach steps/s",
-        "42X steps/s",
-        "second steps/s",
-        "Unicorn steps/s",
-        "core/second",
-        "inside/second",
-        "reach/second",
-        "42X/second",
-        "Unicorn/second",
-    ];
-    show(heads.map(String::from));
-    for each in [ARITHMETIC, MEMORY, BRANCHES, LEDGER, ENABLED, DOUBLEWORD, ROTATES] {
+    println!("million steps a second, the best of {runs} runs, and ratios of speeds: 2.00 is twice as fast");
+    show([""; 3], ["", "", "", "", "", "", ""], "predecoded", ["as fast", "as second:", "", "", "", ""]);
+    let ratios = ["core", "predecoded", "inside", "reach", "42X", "Unicorn"];
+    let rates = ["core", "predecoded", "inside", "reach", "42X", "second", "Unicorn"];
+    show(["loop", "M", "steps"], rates, "/core", ratios);
+    for each in [ARITHMETIC, MEMORY, BRANCHES, LEDGER, ENABLED, DOUBLEWORD, ROTATES, REWRITING] {
         measure(&each, SIZE, STEPS, runs);
+    }
+    for (name, words) in [("128 words", 128), ("300 words", 300), ("512 words", 512), ("1024 words", 1024)] {
+        measure(&long(name, words), LARGER, STEPS, runs);
     }
     for size in [1 << 16, 1 << 20] {
         measure(&LEDGER, size, STEPS, runs);
@@ -58,27 +51,18 @@ fn main() {
 
 fn measure(each: &Loop, size: usize, steps: u32, runs: u32) {
     let best = best(each, size, steps, runs);
-    let [core, inside, reach, of_42x, second, unicorn @ ..] = &best[..] else { unreachable!("five play every loop") };
-    let unicorn = unicorn.first();
-    let rate = |seconds: &f64| format!("{:.0}", f64::from(steps) / seconds);
-    let ratio = |seconds: &f64| format!("{:.2}", second / seconds);
-    let none = || "-".to_string();
-    show([
-        each.name.to_string(),
-        size.to_string(),
-        steps.to_string(),
-        rate(core),
-        rate(inside),
-        rate(reach),
-        rate(of_42x),
-        rate(second),
-        unicorn.map_or_else(none, rate),
-        ratio(core),
-        ratio(inside),
-        ratio(reach),
-        ratio(of_42x),
-        unicorn.map_or_else(none, ratio),
-    ]);
+    let [core, predecoded, inside, reach, of_42x, second, unicorn @ ..] = &best[..] else {
+        unreachable!("six play every loop")
+    };
+    let players =
+        [Some(core), Some(predecoded), Some(inside), Some(reach), Some(of_42x), Some(second), unicorn.first()];
+    let shown = |figure: Option<String>| figure.unwrap_or("-".into());
+    let rates = players.map(|best| shown(best.map(|seconds| format!("{:.1}", f64::from(steps) / seconds / 1e6))));
+    let [core, predecoded, inside, reach, of_42x, _, unicorn] = players;
+    let ratios = [core, predecoded, inside, reach, of_42x, unicorn];
+    let ratios = ratios.map(|best| shown(best.map(|seconds| format!("{:.2}", second / seconds))));
+    let over_core = core.zip(predecoded).map(|(core, predecoded)| format!("{:.2}", core / predecoded));
+    show([each.name, &size.to_string(), &steps.to_string()], rates, shown(over_core), ratios);
 }
 
 /// The least seconds of each player. They take turns, so that they meet the same machine, and must end alike.
@@ -97,9 +81,15 @@ fn best(each: &Loop, size: usize, steps: u32, runs: u32) -> Vec<f64> {
     best
 }
 
-fn show(cells: [String; 14]) {
-    const WIDTHS: [usize; 13] = [7, 6, 12, 14, 13, 11, 14, 15, 11, 13, 12, 10, 14];
-    let [name, rest @ ..] = cells;
-    let rest: Vec<_> = rest.iter().zip(WIDTHS).map(|(cell, width)| format!("{cell:>width$}")).collect();
-    println!("{name:10} {}", rest.join(" "));
+/// A row: what is played, steps a second, predecoded over core, and the others over second.
+fn show<T: Display>(what: [&str; 3], rates: [T; 7], over_core: impl Display, ratios: [T; 6]) {
+    const RATES: [usize; 7] = [7, 10, 7, 7, 7, 7, 7];
+    const RATIOS: [usize; 6] = [7, 10, 7, 7, 7, 7];
+    let row = |cells: &[T], widths: &[usize]| {
+        let cells: Vec<_> = cells.iter().zip(widths).map(|(cell, width)| format!("{cell:>width$}")).collect();
+        cells.join(" ")
+    };
+    let [name, size, steps] = what;
+    let (rates, ratios) = (row(&rates, &RATES), row(&ratios, &RATIOS));
+    println!("{}", format!("{name:10} {size:>7} {steps:>6} {rates} {over_core:>10} {ratios}").trim_end());
 }

@@ -12,10 +12,11 @@ const TCR: usize = 4 * 31;
 pub type Player = fn(&mut State, u32) -> f64;
 
 /// How many play all that the PPE 42 has; they come first.
-pub const OURS: usize = 5;
+pub const OURS: usize = 6;
 
 pub const PLAYERS: &[Player] = &[
     |state, steps| play(LINKED.run, state, steps),
+    |state, steps| play(LINKED.run_predecoded, state, steps),
     |state, steps| play(LINKED.run_inside, state, steps),
     |state, steps| play(LINKED.run_reach, state, steps),
     |state, steps| play(LINKED_42X.run, state, steps),
