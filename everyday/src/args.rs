@@ -125,6 +125,9 @@ pub struct Run {
     /// The report for scripts
     #[arg(long)]
     pub json: bool,
+    /// Play by the plain engine, which keeps no decoded words
+    #[arg(long)]
+    pub plain: bool,
 }
 
 #[derive(Args)]

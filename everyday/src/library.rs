@@ -26,6 +26,8 @@ struct Functions {
     run: Run,
     run_reach: Run,
     run_inside: Run,
+    run_predecoded: Run,
+    run_predecoded_reach: Run,
     step: Step,
     tell: Ask,
     access: Ask,
@@ -42,6 +44,8 @@ macro_rules! functions {
         run: $run:ident,
         run_reach: $run_reach:ident,
         run_inside: $run_inside:ident,
+        run_predecoded: $run_predecoded:ident,
+        run_predecoded_reach: $run_predecoded_reach:ident,
         step: $step:ident,
         tell: $tell:ident,
         access: $access:ident,
@@ -51,7 +55,7 @@ macro_rules! functions {
         assemble: $assemble:ident,
         disassemble: $disassemble:ident,
     }) => {
-        functions!(runs $run $run_reach $run_inside);
+        functions!(runs $run $run_reach $run_inside $run_predecoded $run_predecoded_reach);
         functions!(asks $tell $access);
         extern "C" {
             fn $step(state: *mut u8, state_len: usize, memory: *mut u8, memory_len: usize, event: u8) -> u64;
@@ -72,6 +76,8 @@ macro_rules! functions {
             run: $run,
             run_reach: $run_reach,
             run_inside: $run_inside,
+            run_predecoded: $run_predecoded,
+            run_predecoded_reach: $run_predecoded_reach,
             step: $step,
             tell: $tell,
             access: $access,
@@ -106,6 +112,8 @@ functions!(PPE42 {
     run: ppe42_run,
     run_reach: ppe42_run_reach,
     run_inside: ppe42_run_inside,
+    run_predecoded: ppe42_run_predecoded,
+    run_predecoded_reach: ppe42_run_predecoded_reach,
     step: ppe42_step,
     tell: ppe42_tell,
     access: ppe42_access,
@@ -120,6 +128,8 @@ functions!(PPE42X {
     run: ppe42x_run,
     run_reach: ppe42x_run_reach,
     run_inside: ppe42x_run_inside,
+    run_predecoded: ppe42x_run_predecoded,
+    run_predecoded_reach: ppe42x_run_predecoded_reach,
     step: ppe42x_step,
     tell: ppe42x_tell,
     access: ppe42x_access,
@@ -246,6 +256,28 @@ impl Profile {
         budget: u32,
     ) -> Result<Answer, Refusal> {
         played(self.functions().run_inside, state, memory, events, budget)
+    }
+
+    /// As `run`, by the engine that keeps decoded words.
+    pub fn run_predecoded(
+        self,
+        state: &mut State,
+        memory: &mut [u8],
+        events: &[u8],
+        budget: u32,
+    ) -> Result<Answer, Refusal> {
+        played(self.functions().run_predecoded, state, memory, events, budget)
+    }
+
+    /// As `run_reach`, by the same engine.
+    pub fn run_predecoded_reach(
+        self,
+        state: &mut State,
+        memory: &mut [u8],
+        events: &[u8],
+        budget: u32,
+    ) -> Result<Answer, Refusal> {
+        played(self.functions().run_predecoded_reach, state, memory, events, budget)
     }
 
     pub fn step(self, state: &mut State, memory: &mut [u8], event: u8) -> Result<Answer, Refusal> {

@@ -17,6 +17,14 @@ pub enum Until {
     Wait,
 }
 
+/// What plays the runs; their outcome is the same.
+#[derive(Clone, Copy, PartialEq)]
+pub enum Engine {
+    Plain,
+    /// Keeps decoded words.
+    Predecoded,
+}
+
 #[derive(Clone, Copy, Debug, PartialEq)]
 pub enum End {
     /// The budget is used.
@@ -47,6 +55,7 @@ const KEPT: u64 = 16;
 const LOOKED_AT: u32 = 4096;
 
 struct Player<'a> {
+    engine: Engine,
     capture: &'a mut Capture,
     events: &'a Events,
     list: Vec<u8>,
@@ -57,10 +66,17 @@ struct Player<'a> {
     searched: Duration,
 }
 
-pub fn play(capture: &mut Capture, events: &Events, budget: u64, until: Until) -> Result<Played, Refusal> {
+pub fn play(
+    engine: Engine,
+    capture: &mut Capture,
+    events: &Events,
+    budget: u64,
+    until: Until,
+) -> Result<Played, Refusal> {
     let was_halted = library::halted(&capture.state);
     let kept = capture.clone();
     let mut player = Player {
+        engine,
         capture,
         events,
         list: Vec::new(),
@@ -95,7 +111,12 @@ impl Player<'_> {
         let most = (budget - self.steps).min(MOST as u64) as u32;
         self.events.list(self.steps, most, &mut self.list);
         // after the first reach there is nothing more to tell
-        let run = if self.reached.is_none() { Profile::run_reach } else { Profile::run };
+        let run = match (self.engine, self.reached) {
+            (Engine::Plain, None) => Profile::run_reach,
+            (Engine::Plain, Some(_)) => Profile::run,
+            (Engine::Predecoded, None) => Profile::run_predecoded_reach,
+            (Engine::Predecoded, Some(_)) => Profile::run_predecoded,
+        };
         let answer = run(self.capture.profile, &mut self.capture.state, &mut self.capture.memory, &self.list, most)?;
         self.steps += u64::from(answer.count);
         if answer.reached {
@@ -158,10 +179,11 @@ impl Player<'_> {
     fn last(&mut self) -> Result<Step, Refusal> {
         let mut capture = self.kept.clone();
         let mut at = self.kept_at;
+        let run = if self.engine == Engine::Plain { Profile::run } else { Profile::run_predecoded };
         while at < self.steps - 1 {
             let most = (self.steps - 1 - at).min(MOST as u64) as u32;
             self.events.list(at, most, &mut self.list);
-            at += u64::from(capture.profile.run(&mut capture.state, &mut capture.memory, &self.list, most)?.count);
+            at += u64::from(run(capture.profile, &mut capture.state, &mut capture.memory, &self.list, most)?.count);
         }
         self.events.list(at, 1, &mut self.list);
         step::take(&mut capture, at, self.list.first().copied().unwrap_or(0))

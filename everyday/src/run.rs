@@ -7,7 +7,7 @@ use crate::expect::{self, Expected};
 use crate::files;
 use crate::load;
 use crate::numbers::{self, grouped};
-use crate::play::{self, End, Played, Until};
+use crate::play::{self, End, Engine, Played, Until};
 use crate::profile::Profile;
 use crate::refusals;
 use crate::registers::{self, HALT, IAR, MSR, WE};
@@ -32,8 +32,9 @@ pub fn run(profile: Profile, args: &Run) -> Result<ExitCode, String> {
     }
     args.out.as_deref().map_or(Ok(()), files::has_place)?;
     let before = after.clone();
-    let played =
-        play::play(&mut after, &events, budget, until).map_err(|refusal| refusals::of_start(refusal, &before))?;
+    let engine = if args.plain { Engine::Plain } else { Engine::Predecoded };
+    let played = play::play(engine, &mut after, &events, budget, until)
+        .map_err(|refusal| refusals::of_start(refusal, &before))?;
     let report = Report { before: &before, after: &after, played: &played, symbols: &symbols };
     let met = expected.as_ref().map(|expected| expected.met(&played, &after));
     if args.json {

@@ -1,4 +1,4 @@
-//! `run` against the plain library: the same state, memory, count and reach as calls of one step each.
+//! `run` against the plain library, by both of its engines: the same state, memory, count and reach as calls of one step each.
 
 mod common;
 
@@ -53,6 +53,13 @@ fn products(folder: &Path) {
     fs::write(folder.join("products.bin"), memory(0x200, parts)).unwrap();
 }
 
+/// rewriting.bin counts by its first word, over which it stores addi r3,r3,1 and addi r3,r3,16 in turns.
+fn rewriting(folder: &Path) {
+    // bc 16,0,-4; xor r6,r6,r7; stw r6,0(0); mtspr 9,r8; b 0
+    let words = [0x38630001, 0x4200FFFC, 0x7CC63A78, 0x90C00000, 0x7D0903A6, 0x4BFFFFEC];
+    fs::write(folder.join("rewriting.bin"), memory(0x20, &[(0, &words)])).unwrap();
+}
+
 /// Steps one by one with these event bytes; the count, and the first step that faulted for want of memory.
 fn plainly(
     capture: &mut Capture,
@@ -90,20 +97,24 @@ fn same(
     let folder = folder(name);
     loops(&folder);
     products(&folder);
+    rewriting(&folder);
     content(ppe42(&folder, make));
     let before = folder.join("start.capture");
     let profile = Profile::of(make.contains(&"--42x"));
     let count = steps.to_string();
-    let mut arguments = vec!["run", "start.capture", "--json", "--out", "end.capture", "--steps", &count];
-    arguments.extend(run);
-    let report: Value = serde_json::from_str(&text(&content(ppe42(&folder, &arguments)).stdout)).unwrap();
     let mut plain = Capture::read(profile, &before).unwrap();
     let (taken, reached) = plainly(&mut plain, event, steps, until);
-    let after = Capture::read(profile, &folder.join("end.capture")).unwrap();
-    assert!(after.state == plain.state && after.memory == plain.memory, "{name}: not the same state and memory");
-    assert_eq!(report["steps"].as_u64(), Some(taken), "{name}");
-    assert_eq!(report["reached"].as_u64(), reached, "{name}");
     assert!(taken > 0, "{name}: nothing was played");
+    for engine in [&[][..], &["--plain"]] {
+        let mut arguments = vec!["run", "start.capture", "--json", "--out", "end.capture", "--steps", &count];
+        arguments.extend(run.iter().chain(engine));
+        let report: Value = serde_json::from_str(&text(&content(ppe42(&folder, &arguments)).stdout)).unwrap();
+        let after = Capture::read(profile, &folder.join("end.capture")).unwrap();
+        let same = after.state == plain.state && after.memory == plain.memory;
+        assert!(same, "{name} {engine:?}: not the same state and memory");
+        assert_eq!(report["steps"].as_u64(), Some(taken), "{name} {engine:?}");
+        assert_eq!(report["reached"].as_u64(), reached, "{name} {engine:?}");
+    }
 }
 
 fn never(_: &State, _: &State) -> bool {
@@ -189,6 +200,14 @@ fn a_42x_with_frames() {
     let make = ["make", "--42x", "products.bin", "-o", "start.capture", "--memory", "1024"];
     let make: Vec<&str> = make.into_iter().chain(settings).collect();
     same("frames_run", &make, &["--42x"], |_| 0, 100_000, never);
+}
+
+#[test]
+fn code_that_rewrites_itself() {
+    let settings = ["r6=38630001", "r7=11", "r8=64", "CTR=64"].iter().flat_map(|setting| ["--set", setting]);
+    let make = ["make", "rewriting.bin", "-o", "start.capture", "--memory", "512"];
+    let make: Vec<&str> = make.into_iter().chain(settings).collect();
+    same("rewriting", &make, &[], |_| 0, 2_500_000, never);
 }
 
 #[test]

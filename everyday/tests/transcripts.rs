@@ -1,6 +1,6 @@
 //! Stored transcripts: each `$` line is run in a folder with the firmware, and must print what stands below it. What goes to
 //! standard error follows what goes to standard output, then the exit status if it is not 0. Lines of `time` are left out. A
-//! last word `<FILE` gives ./ppe42 that file on standard input.
+//! last word `<FILE` gives ./ppe42 that file on standard input. Where something is run, it must all come again with --plain.
 
 mod common;
 
@@ -11,12 +11,32 @@ use std::path::Path;
 fn transcript(name: &str) {
     let path = Path::new(env!("CARGO_MANIFEST_DIR")).join("tests/transcripts").join(name).with_extension("txt");
     let stored = fs::read_to_string(&path).expect("the transcript is there");
+    compare(&path, &stored, name, |arguments| arguments.to_vec());
+    if stored.lines().filter_map(|line| line.strip_prefix(COMMAND)).any(|words| runs(&split(words))) {
+        compare(&path, &stored, &format!("{name}_plain"), plainly);
+    }
+}
+
+const COMMAND: &str = "$ ./ppe42 ";
+
+fn runs(arguments: &[String]) -> bool {
+    arguments.iter().find(|argument| *argument != "--42x").is_some_and(|command| command == "run")
+}
+
+/// The arguments with --plain, if they are those of run.
+fn plainly(arguments: &[String]) -> Vec<String> {
+    let plain = runs(arguments).then(|| "--plain".into());
+    arguments.iter().cloned().chain(plain).collect()
+}
+
+/// Runs the lines, with the arguments changed, in a folder of this name.
+fn compare(path: &Path, stored: &str, name: &str, change: impl Fn(&[String]) -> Vec<String>) {
     let folder = folder(name);
     let mut found = String::new();
     for line in stored.lines() {
-        if let Some(words) = line.strip_prefix("$ ./ppe42 ") {
+        if let Some(words) = line.strip_prefix(COMMAND) {
             let (words, file) = words.split_once(" <").unwrap_or((words, ""));
-            let arguments = split(words);
+            let arguments = change(&split(words));
             let arguments: Vec<&str> = arguments.iter().map(String::as_str).collect();
             let input =
                 if file.is_empty() { Vec::new() } else { fs::read(folder.join(file)).expect("the input is there") };
