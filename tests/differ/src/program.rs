@@ -24,10 +24,8 @@ const MOST: u32 = 0x400;
 const COPY: u32 = 0x2000;
 const END: u32 = 0x4000;
 
-/// Of the pool: instructions that may stand anywhere, at multiples of eight so that a masked pointer finds them, and behind
-/// them words for a store over itself.
-const POOLED: u32 = 8;
-const SPARE: u32 = POOL + 8 * POOLED;
+/// Of the pool: so many instructions that may stand anywhere, and behind them words for stores over themselves.
+const POOLED: u32 = 16;
 
 /// The middle of the data, where r10 points at the start of each turn.
 const MIDDLE: u32 = (DATA + POOL) / 2;
@@ -111,7 +109,7 @@ impl Program {
         };
         let (words, pool) = (vec![None; MOST as usize], vec![]);
         let mut program = Program { profile, words, pool, at: 0, used: 0, length, stride, plain: vec![], turns: 1 };
-        program.pool = (0..2 * POOLED).map(|_| program.draw_plain(urn)).collect();
+        program.pool = (0..POOLED).map(|_| program.draw_plain(urn)).collect();
         program.put(&[word(&format!("addi r10,0,{MIDDLE}"))]);
         while program.count() < size {
             program.put_item(urn);
@@ -344,7 +342,7 @@ impl Program {
 
     /// A store over itself: of r6 it becomes one of r7, and that one of r6 again.
     fn put_own_word(&mut self, urn: &mut Urn) {
-        let at = SPARE + 4 * self.pool.len() as u32 - 4 * 2 * POOLED;
+        let at = POOL + 4 * self.pool.len() as u32;
         if at + 8 > CODE {
             return self.put_walk(urn);
         }
@@ -405,10 +403,7 @@ impl Program {
         for offset in [0x0A0, 0x100, 0x120, 0x140] {
             put(memory, vectors + offset, &due);
         }
-        for (place, word) in self.pool[..2 * POOLED as usize].iter().enumerate() {
-            put(memory, POOL + 4 * place as u32, &[*word]);
-        }
-        put(memory, SPARE, &self.pool[2 * POOLED as usize..]);
+        put(memory, POOL, &self.pool);
         for copy in 0..2 {
             let words: Vec<u32> = self.words.iter().flatten().map(|both| both[copy]).collect();
             put(memory, COPY + 4 * MOST * copy as u32, &words);
