@@ -62,7 +62,7 @@ impl State {
     }
 
     // The doubleword in DT, or the interrupt.
-    fn loaded_double(
+    pub fn loaded_double(
         self,
         profile: Profile,
         got: LoadedDouble,

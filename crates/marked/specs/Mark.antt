@@ -4,6 +4,7 @@ use mathlib.Core.Bool.{Bool, true, false}
 use lib.Dec.{eqb}
 use Rattle.memory.specs.Access.{pick}
 use Rattle.memory.specs.declared.load.Loaded.{Loaded}
+use Rattle.memory.specs.declared.load.LoadedDouble.{LoadedDouble}
 use Rattle.machine.specs.State.{with}
 use Rattle.machine.specs.After.{After}
 use Rattle.machine.specs.declared.state.State.{State}
@@ -14,6 +15,11 @@ abbrev pub loadReaches : Loaded → Bool
 loadReaches (Loaded.Value v) = false
 loadReaches Loaded.Unaligned = false
 loadReaches Loaded.Outside = true
+
+abbrev pub doubleReaches : LoadedDouble → Bool
+doubleReaches (LoadedDouble.Value v) = false
+doubleReaches LoadedDouble.Unaligned = false
+doubleReaches LoadedDouble.Outside = true
 
 -- the mark of a reach, in the halt code's place: 8 where the core goes on, 9 where the reach halted it with 1
 abbrev pub markFor : ℕ → ℕ

@@ -1,9 +1,10 @@
 // The mark of a reach past memory, in the halt code's place.
 ghost use mathlib.Core.Path.{_≡_};
-ghost use Rattle.marked.specs.Mark.{loadReaches, markFor, markedIf, unmarked};
+ghost use Rattle.marked.specs.Mark.{loadReaches, doubleReaches, markFor, markedIf, unmarked};
 use machine::state::Reg;
 use machine::state::State;
 use memory::load::Loaded;
+use memory::load::LoadedDouble;
 
 // Whether what was loaded fell outside.
 pub fn load_reaches(got: Loaded) -> bool
@@ -13,6 +14,17 @@ pub fn load_reaches(got: Loaded) -> bool
         Loaded::Value(_) => false,
         Loaded::Unaligned => false,
         Loaded::Outside => true,
+    }
+}
+
+// The same of a doubleword.
+pub fn double_reaches(got: LoadedDouble) -> bool
+    ensures { λ r. ⌜ r ≡ doubleReaches got ⌝ }
+{
+    match got {
+        LoadedDouble::Value(_) => false,
+        LoadedDouble::Unaligned => false,
+        LoadedDouble::Outside => true,
     }
 }
 

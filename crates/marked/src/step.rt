@@ -1,14 +1,15 @@
-// The step that marks a reach past its memory: a loop that ends at a halt ends there too, and of the other steps only dcbz,
-// doublewords and stack frames pay for the question.
+// The step that marks a reach past its memory: a loop that ends at a halt ends there too, and of the other steps only dcbz and stack
+// frames pay for the question.
 ghost use mathlib.Core.Path.{_≡_};
 ghost use Rattle.insn.specs.Read.{decodeOn};
-ghost use Rattle.machine.specs.LoadStore.{offsetEa, loadedState, storedState, loadStoreOf};
+ghost use Rattle.machine.specs.LoadStore.{loadedState, storedState, loadStoreOf};
 ghost use Rattle.machine.specs.Cache.{cacheOf};
 ghost use Rattle.machine.specs.Stack.{frameEa, doublewords, stackOf, frameMissed, missedPast};
 ghost use Rattle.machine.specs.State.{gprOf};
 ghost use Rattle.machine.specs.Step.{executeOf, decodedOf, runningOf, awakeOf, highestOf, interruptibleOf, countedOf, stepOf};
-ghost use Rattle.memory.specs.Access.{accessOf, reachesPast};
+ghost use Rattle.memory.specs.Access.{reachesPast};
 ghost use Rattle.marked.specs.Mark.{loadReaches, markedIf, markedOf};
+use crate::mark::double_reaches;
 use crate::mark::load_reaches;
 use crate::mark::mark;
 use insn::instr::CacheOp;
@@ -25,7 +26,6 @@ use machine::state::State;
 use machine::step::Pending;
 use memory::access::Access;
 use memory::access::block_access;
-use memory::access::double_access;
 use memory::access::reaches_past;
 use memory::load;
 use memory::load::Loaded;
@@ -65,12 +65,6 @@ fn stored_marked(
         state.stored(profile, done, update, ra, ea),
         reaches_past(done),
     )
-}
-
-fn double_reaches(state: State, len: usize, ra: u8, d: u16) -> bool
-    ensures { λ r. ⌜ r ≡ reachesPast (accessOf len (offsetEa state ra d) 8) ⌝ }
-{
-    reaches_past(double_access(len, state.offset_ea(ra, d)))
 }
 
 pub fn load_store_marked(profile: Profile, state: State, mem: &mut [u8], i: LoadStore) -> State
@@ -124,15 +118,17 @@ pub fn load_store_marked(profile: Profile, state: State, mem: &mut [u8], i: Load
             stored_marked(profile, state, done, false, ra, ea)
         }
         LoadStore::LoadDouble { update, dt, ra, d } => {
-            let past = double_reaches(state, mem.len(), ra, d);
+            let ea = state.offset_ea(ra, d);
+            let got = load::load_double(&mem[..], ea);
             mark(
-                state.load_double(profile, &mem[..], update, dt, ra, d),
-                past,
+                state.loaded_double(profile, got, dt, update, ra, ea),
+                double_reaches(got),
             )
         }
         LoadStore::StoreDouble { update, ds, ra, d } => {
-            let past = double_reaches(state, mem.len(), ra, d);
-            mark(state.store_double(profile, mem, update, ds, ra, d), past)
+            let ea = state.offset_ea(ra, d);
+            let done = store::store_double(mem, ea, state.vdr(ds));
+            stored_marked(profile, state, done, update, ra, ea)
         }
     }
 }

@@ -1,6 +1,6 @@
 -- `marked::step::load_store_marked` meets its contract, form by form. Assumes nothing.
 use Rattle.machine.specs.LoadStore.{loadStoreOf, loadAt, storeAt, loadDoubleAt, storeDoubleAt}
-use Rattle.marked.proofs.Marks.{load-reaches}
+use Rattle.marked.proofs.Marks.{load-reaches, double-reaches}
 use mathlib.Core.Path.{refl}
 use borrow.Author.Needs.{needs}
 use Rattle.marked.proofs.step.load_store_marked.Statement.{statement}
@@ -33,7 +33,10 @@ load-store-marked-spec =
     (λ c κs. search needs)
     (λ c κs. search needs)
     (λ c κs. search needs)
+    (λ c κs. search needs)
+    (λ c κs. search needs)
     (λ c. search needs)
+    (λ c κs. search needs)
     (λ c κs. search needs)
     (λ c κs. search needs)
     (λ c κs. search needs)
@@ -46,6 +49,6 @@ load-store-marked-spec =
     (λ c. search needs)
     (λ c. rw (c .before .before .before .before .before .before .before .before .i4 .given .1, ← (c .before .before .before .before .before .before .indexed-ea2 .ensures), ← (c .before .before .before .before .reg2 .ensures), ← (c .before .before .before .store2 .ensures .0)) (c .stored-marked2 .ensures, c .before .before .before .store2 .ensures .1))
     (λ c. search needs)
-    (λ c. rw (c .before .before .before .before .before .i5 .given .1) (rw (c .mark .ensures, c .before .load-double .ensures, c .before .before .before .double-reaches .ensures), refl))
+    (λ c. rw (c .before .before .before .before .before .before .before .i5 .given .1, ← (c .before .before .before .before .before .offset-ea3 .ensures), double-reaches _ _, ← (c .before .before .before .load-double .ensures)) (rw (c .mark .ensures, c .before .before .loaded-double .ensures, c .before .double-reaches .ensures), refl))
     (λ c. search needs)
-    (λ c. rw (c .before .before .before .before .before .before .before .i6 .given .1) (rw (c .mark2 .ensures, c .before .before .before .store-double .ensures .0, c .before .before .before .before .before .double-reaches2 .ensures), c .before .before .before .store-double .ensures .1)))
+    (λ c. rw (c .before .before .before .before .before .before .before .before .i6 .given .1, ← (c .before .before .before .before .before .before .offset-ea4 .ensures), ← (c .before .before .before .before .vdr .ensures), ← (c .before .before .before .store-double .ensures .0)) (c .stored-marked3 .ensures, c .before .before .before .store-double .ensures .1)))
