@@ -1,4 +1,4 @@
--- What is fetched and read at an address: the word and its form.
+-- What is fetched and read at an address: the word and its form. This serves code alone.
 use Prim.Native.Nat.{ℕ}
 use mathlib.Core.List.{List}
 use Rattle.memory.specs.Load.{fetchOf}
