@@ -149,6 +149,14 @@ uint64_t ppe42_run_reach(uint8_t *state, size_t state_len, uint8_t *memory, size
 uint64_t ppe42_run_inside(uint8_t *state, size_t state_len, uint8_t *memory, size_t memory_len, const uint8_t *events,
                           size_t events_len, uint32_t budget);
 
+/* The same run, but it ends already with the first step that leaves IAR at a stop; that step is taken and counted. stops has a
+ * byte for each word from address 0 on: where byte k is not 0, there is a stop at address 4k, and past the end of the list there
+ * is none. The list may have any length and any bytes. A run that begins at a stop takes its first step all the same. State,
+ * memory and answer are those of ppe42_run of as many steps; to go on, run again from what was left, with the rest of the event
+ * list. */
+uint64_t ppe42_run_until(uint8_t *state, size_t state_len, uint8_t *memory, size_t memory_len, const uint8_t *events,
+                         size_t events_len, const uint8_t *stops, size_t stops_len, uint32_t budget);
+
 /* The same run by the engine that keeps decoded words, for long runs: state, memory and answer are those of ppe42_run, also where
  * firmware rewrites its own code. The words are kept for this run alone. */
 uint64_t ppe42_run_predecoded(uint8_t *state, size_t state_len, uint8_t *memory, size_t memory_len, const uint8_t *events,
@@ -235,6 +243,8 @@ uint64_t ppe42x_run_reach(uint8_t *state, size_t state_len, uint8_t *memory, siz
                           size_t events_len, uint32_t budget);
 uint64_t ppe42x_run_inside(uint8_t *state, size_t state_len, uint8_t *memory, size_t memory_len, const uint8_t *events,
                            size_t events_len, uint32_t budget);
+uint64_t ppe42x_run_until(uint8_t *state, size_t state_len, uint8_t *memory, size_t memory_len, const uint8_t *events,
+                          size_t events_len, const uint8_t *stops, size_t stops_len, uint32_t budget);
 uint64_t ppe42x_run_predecoded(uint8_t *state, size_t state_len, uint8_t *memory, size_t memory_len, const uint8_t *events,
                                size_t events_len, uint32_t budget);
 uint64_t ppe42x_run_predecoded_reach(uint8_t *state, size_t state_len, uint8_t *memory, size_t memory_len,

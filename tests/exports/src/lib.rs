@@ -31,9 +31,9 @@ macro_rules! runs {
 /// The functions of one core, by the names that they have in C.
 macro_rules! functions {
     ($profile:expr;
-        $legal:ident $rewrite:ident $run:ident $run_reach:ident $run_inside:ident $run_predecoded:ident
-        $run_predecoded_reach:ident $step:ident $tell:ident $access:ident $capture_check:ident $capture_write:ident
-        $assemble:ident $disassemble:ident
+        $legal:ident $rewrite:ident $run:ident $run_reach:ident $run_inside:ident $run_until:ident
+        $run_predecoded:ident $run_predecoded_reach:ident $step:ident $tell:ident $access:ident $capture_check:ident
+        $capture_write:ident $assemble:ident $disassemble:ident
     ) => {
         #[no_mangle]
         pub extern "C" fn $legal(word: u32) -> u32 {
@@ -55,6 +55,25 @@ macro_rules! functions {
             $profile;
             $run second::run, $run_reach second::run_reach, $run_inside second::run_inside,
             $run_predecoded second::run, $run_predecoded_reach second::run_reach
+        }
+
+        /// # Safety
+        /// See the top.
+        #[no_mangle]
+        pub unsafe extern "C" fn $run_until(
+            state: *mut u8,
+            state_len: usize,
+            memory: *mut u8,
+            memory_len: usize,
+            events: *const u8,
+            events_len: usize,
+            stops: *const u8,
+            stops_len: usize,
+            budget: u32,
+        ) -> u64 {
+            let (state, memory) = (lent_mut(state, state_len), lent_mut(memory, memory_len));
+            let (events, stops) = (lent(events, events_len), lent(stops, stops_len));
+            second::run_until($profile, state, memory, events, stops, budget)
         }
 
         /// # Safety
@@ -136,14 +155,16 @@ macro_rules! functions {
 
 functions! {
     Profile::Ppe42;
-    ppe42_legal ppe42_rewrite ppe42_run ppe42_run_reach ppe42_run_inside ppe42_run_predecoded ppe42_run_predecoded_reach
-    ppe42_step ppe42_tell ppe42_access ppe42_capture_check ppe42_capture_write ppe42_assemble ppe42_disassemble
+    ppe42_legal ppe42_rewrite ppe42_run ppe42_run_reach ppe42_run_inside ppe42_run_until
+    ppe42_run_predecoded ppe42_run_predecoded_reach ppe42_step ppe42_tell ppe42_access
+    ppe42_capture_check ppe42_capture_write ppe42_assemble ppe42_disassemble
 }
 
 functions! {
     Profile::Ppe42x;
-    ppe42x_legal ppe42x_rewrite ppe42x_run ppe42x_run_reach ppe42x_run_inside ppe42x_run_predecoded ppe42x_run_predecoded_reach
-    ppe42x_step ppe42x_tell ppe42x_access ppe42x_capture_check ppe42x_capture_write ppe42x_assemble ppe42x_disassemble
+    ppe42x_legal ppe42x_rewrite ppe42x_run ppe42x_run_reach ppe42x_run_inside ppe42x_run_until
+    ppe42x_run_predecoded ppe42x_run_predecoded_reach ppe42x_step ppe42x_tell ppe42x_access
+    ppe42x_capture_check ppe42x_capture_write ppe42x_assemble ppe42x_disassemble
 }
 
 /// # Safety

@@ -6,6 +6,9 @@ extern crate exports as _;
 /// A function that plays a run: given state, memory, event list and budget.
 pub type Play = fn(&mut [u8], &mut [u8], &[u8], u32) -> u64;
 
+/// The same with stops, a byte for each word, before the budget.
+pub type Until = fn(&mut [u8], &mut [u8], &[u8], &[u8], u32) -> u64;
+
 /// A function of one step: given state, memory and event byte.
 pub type Step = fn(&mut [u8], &mut [u8], u8) -> u64;
 
@@ -25,6 +28,8 @@ pub struct Library {
     pub run_reach: Play,
     /// The same up to the first step that reaches.
     pub run_inside: Play,
+    /// As `run` up to the first step that leaves IAR at a stop.
+    pub run_until: Until,
     /// As `run` and `run_reach`, by the engine that keeps decoded words.
     pub run_predecoded: Play,
     pub run_predecoded_reach: Play,
@@ -75,9 +80,9 @@ macro_rules! runs {
 /// The linked library's functions of one core, by their C names; those of S-records are the same for both.
 macro_rules! linked {
     ($(#[$doc:meta])* $linked:ident, $module:ident;
-        $legal:ident $rewrite:ident $run:ident $run_reach:ident $run_inside:ident $run_predecoded:ident
-        $run_predecoded_reach:ident $step:ident $tell:ident $access:ident $capture_check:ident $capture_write:ident
-        $assemble:ident $disassemble:ident
+        $legal:ident $rewrite:ident $run:ident $run_reach:ident $run_inside:ident $run_until:ident
+        $run_predecoded:ident $run_predecoded_reach:ident $step:ident $tell:ident $access:ident $capture_check:ident
+        $capture_write:ident $assemble:ident $disassemble:ident
     ) => {
         $(#[$doc])*
         pub const $linked: Library = $module::LIBRARY;
@@ -88,6 +93,17 @@ macro_rules! linked {
             extern "C" {
                 fn $legal(word: u32) -> u32;
                 fn $rewrite(word: u32) -> u64;
+                fn $run_until(
+                    state: *mut u8,
+                    state_len: usize,
+                    memory: *mut u8,
+                    memory_len: usize,
+                    events: *const u8,
+                    events_len: usize,
+                    stops: *const u8,
+                    stops_len: usize,
+                    budget: u32,
+                ) -> u64;
                 fn $step(state: *mut u8, state_len: usize, memory: *mut u8, memory_len: usize, event: u8) -> u64;
                 fn $tell(state: *const u8, state_len: usize, memory: *const u8, memory_len: usize, event: u8) -> u64;
                 fn $access(state: *const u8, state_len: usize, memory: *const u8, memory_len: usize, event: u8) -> u64;
@@ -110,6 +126,7 @@ macro_rules! linked {
                 run,
                 run_reach,
                 run_inside,
+                run_until,
                 run_predecoded,
                 run_predecoded_reach,
                 step,
@@ -134,6 +151,14 @@ macro_rules! linked {
             runs! {
                 run $run, run_reach $run_reach, run_inside $run_inside, run_predecoded $run_predecoded,
                 run_predecoded_reach $run_predecoded_reach
+            }
+
+            fn run_until(state: &mut [u8], memory: &mut [u8], events: &[u8], stops: &[u8], budget: u32) -> u64 {
+                let (states, bytes) = (state.len(), memory.len());
+                let (state, memory) = (state.as_mut_ptr(), memory.as_mut_ptr());
+                let (listed, stopped) = (events.len(), stops.len());
+                let (events, stops) = (events.as_ptr(), stops.as_ptr());
+                unsafe { $run_until(state, states, memory, bytes, events, listed, stops, stopped, budget) }
             }
 
             fn step(state: &mut [u8], memory: &mut [u8], event: u8) -> u64 {
@@ -170,15 +195,17 @@ macro_rules! linked {
 
 linked! {
     LINKED, of_42;
-    ppe42_legal ppe42_rewrite ppe42_run ppe42_run_reach ppe42_run_inside ppe42_run_predecoded ppe42_run_predecoded_reach
-    ppe42_step ppe42_tell ppe42_access ppe42_capture_check ppe42_capture_write ppe42_assemble ppe42_disassemble
+    ppe42_legal ppe42_rewrite ppe42_run ppe42_run_reach ppe42_run_inside ppe42_run_until
+    ppe42_run_predecoded ppe42_run_predecoded_reach ppe42_step ppe42_tell ppe42_access
+    ppe42_capture_check ppe42_capture_write ppe42_assemble ppe42_disassemble
 }
 
 linked! {
     /// The same of a 42X.
     LINKED_42X, of_42x;
-    ppe42x_legal ppe42x_rewrite ppe42x_run ppe42x_run_reach ppe42x_run_inside ppe42x_run_predecoded ppe42x_run_predecoded_reach
-    ppe42x_step ppe42x_tell ppe42x_access ppe42x_capture_check ppe42x_capture_write ppe42x_assemble ppe42x_disassemble
+    ppe42x_legal ppe42x_rewrite ppe42x_run ppe42x_run_reach ppe42x_run_inside ppe42x_run_until
+    ppe42x_run_predecoded ppe42x_run_predecoded_reach ppe42x_step ppe42x_tell ppe42x_access
+    ppe42x_capture_check ppe42x_capture_write ppe42x_assemble ppe42x_disassemble
 }
 
 extern "C" {

@@ -39,14 +39,39 @@ pub fn legal(profile: Profile, word: u32) -> bool {
 
 /// Refusal * 2^32 + steps; a refusal leaves every byte as given.
 pub fn run(profile: Profile, state: &mut [u8], memory: &mut [u8], events: &[u8], budget: u32) -> u64 {
+    run_by(|core, memory| core.run(profile, memory, events, budget), profile, state, memory, events, budget)
+}
+
+/// The same, but the run ends already with the first step that leaves IAR at a stop.
+pub fn run_until(
+    profile: Profile,
+    state: &mut [u8],
+    memory: &mut [u8],
+    events: &[u8],
+    stops: &[u8],
+    budget: u32,
+) -> u64 {
+    let run = |core: &mut Core, memory: &mut [u8]| core.run_until(profile, memory, events, stops, budget);
+    run_by(run, profile, state, memory, events, budget)
+}
+
+/// By a run of the core that is accepted, which gives its steps.
+fn run_by(
+    run: impl FnOnce(&mut Core, &mut [u8]) -> u32,
+    profile: Profile,
+    state: &mut [u8],
+    memory: &mut [u8],
+    events: &[u8],
+    budget: u32,
+) -> u64 {
     answer(accept(profile, state, memory, events, budget).map(|mut core| {
-        let steps = core.run(profile, memory, events, budget);
+        let steps = run(&mut core, memory);
         capture::write_words(&core.to_words(), state);
         steps
     }))
 }
 
-/// The same run and answer, + 2^63 if the run reached past its memory.
+/// The run and answer of `run`, + 2^63 if the run reached past its memory.
 pub fn run_reach(profile: Profile, state: &mut [u8], memory: &mut [u8], events: &[u8], budget: u32) -> u64 {
     run_telling(Core::run_reach, profile, state, memory, events, budget)
 }

@@ -31,7 +31,7 @@ impl Outcome {
 
 impl Core {
     /// One step on a state, memory and event that no refusal meets.
-    // Three loops have it: a call in each step would slow them by two or three percent.
+    // Four loops have it: a call in each step would slow them by two or three percent.
     #[inline(always)]
     pub fn step(&mut self, profile: Profile, memory: &mut [u8], event: u8) -> Outcome {
         if let Some(outcome) = self.begin(event) {
@@ -76,13 +76,13 @@ impl Core {
 
     /// The number of steps taken: up to the one that halts, at most the budget.
     pub fn run(&mut self, profile: Profile, memory: &mut [u8], events: &[u8], budget: u32) -> u32 {
-        self.play(profile, memory, events, budget, |_| true)
+        self.play(profile, memory, events, budget, |_, _| true)
     }
 
     /// The same, and whether a step of the run reached past memory.
     pub fn run_reach(&mut self, profile: Profile, memory: &mut [u8], events: &[u8], budget: u32) -> (u32, bool) {
         let mut reached = false;
-        let steps = self.play(profile, memory, events, budget, |outcome| {
+        let steps = self.play(profile, memory, events, budget, |outcome, _| {
             reached |= outcome.reached();
             true
         });
@@ -92,28 +92,34 @@ impl Core {
     /// The same, but the first step that reaches past memory is the last.
     pub fn run_inside(&mut self, profile: Profile, memory: &mut [u8], events: &[u8], budget: u32) -> (u32, bool) {
         let mut reached = false;
-        let steps = self.play(profile, memory, events, budget, |outcome| {
+        let steps = self.play(profile, memory, events, budget, |outcome, _| {
             reached = outcome.reached();
             !reached
         });
         (steps, reached)
     }
 
-    /// Goes on after a step if what it came to lets it.
+    /// The same as `run`, but the first step that leaves IAR at a stop is the last. Of the stops each word has a byte,
+    /// which is not 0 where there is one.
+    pub fn run_until(&mut self, profile: Profile, memory: &mut [u8], events: &[u8], stops: &[u8], budget: u32) -> u32 {
+        self.play(profile, memory, events, budget, |_, iar| stops.get(iar as usize / 4).is_none_or(|stop| *stop == 0))
+    }
+
+    /// Goes on after a step if what it came to and the IAR that it left let it.
     fn play(
         &mut self,
         profile: Profile,
         memory: &mut [u8],
         events: &[u8],
         budget: u32,
-        mut on: impl FnMut(Outcome) -> bool,
+        mut on: impl FnMut(Outcome, u32) -> bool,
     ) -> u32 {
         let mut steps = 0;
         while steps < budget && self.halt == 0 {
             let event = events.get(steps as usize).copied().unwrap_or(0);
             let outcome = self.step(profile, memory, event);
             steps += 1;
-            if !on(outcome) {
+            if !on(outcome, self.iar) {
                 break;
             }
         }
