@@ -12,9 +12,9 @@ const COMMON: u32 = 400;
 
 /// Places in a state record.
 const DBCR: usize = 19;
-const IVPR: usize = 23;
+pub const IVPR: usize = 23;
 const TCR: usize = 31;
-const IAR: usize = 34;
+pub const IAR: usize = 34;
 const HALT: usize = 35;
 
 /// What a run is given.
@@ -200,7 +200,7 @@ fn decrementer(urn: &mut Urn) -> u32 {
 }
 
 /// From the first vector to the end of the last.
-const VECTORS: u32 = 0x160;
+pub const VECTORS: u32 = 0x160;
 
 /// Where the vectors are: inside memory, at its edge or anywhere.
 fn prefix(urn: &mut Urn, start: Start, length: u32) -> u32 {

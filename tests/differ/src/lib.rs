@@ -15,6 +15,7 @@ mod runs;
 pub mod same;
 pub mod srecords;
 mod tally;
+mod until;
 pub mod words;
 
 pub use case::Case;
@@ -55,5 +56,6 @@ pub fn compare(subject: &Subject, urn: &mut Urn, tally: &mut Tally) -> Result<()
     captures::compare(subject, &case, urn, tally)?;
     growth::check(&subject.library, &case, &own, urn, tally)?;
     asked::compare(subject, &case, urn, tally)?;
-    runs::compare_long(subject, &case, urn, tally)
+    runs::compare_long(subject, &case, urn, tally)?;
+    until::compare(subject, &case, &own, urn, tally)
 }

@@ -93,12 +93,12 @@ pub fn event(case: &Case, step: u32) -> u8 {
 /// reference's.
 pub fn compare_run(subject: &Subject, case: &Case, reference: &Run) -> Result<Run, Difference> {
     let silent = Run { answer: reference.answer & !REACHED, ..reference.clone() };
-    let library = &subject.library;
-    compare_play(subject, "run", case, library.run, second::run, &silent)?;
-    compare_play(subject, "run_predecoded", case, library.run_predecoded, second::run, &silent)?;
-    let telling = library.run_predecoded_reach;
-    compare_play(subject, "run_predecoded_reach", case, telling, second::run_reach, reference)?;
-    compare_play(subject, "run_reach", case, library.run_reach, second::run_reach, reference)
+    let Subject { profile, library } = subject;
+    let [run, run_reach] = [second::run, second::run_reach].map(|play| ours(*profile, play));
+    compare_play(subject, "run", case, library.run, run, &silent)?;
+    compare_play(subject, "run_predecoded", case, library.run_predecoded, run, &silent)?;
+    compare_play(subject, "run_predecoded_reach", case, library.run_predecoded_reach, run_reach, reference)?;
+    compare_play(subject, "run_reach", case, library.run_reach, run_reach, reference)
 }
 
 /// One case in so many, for as many steps as the engine wants that keeps decoded words.
@@ -109,21 +109,23 @@ pub fn compare_long(subject: &Subject, case: &Case, urn: &mut Urn, tally: &mut T
         return Ok(());
     }
     let case = Case { budget: LEAST, ..case.clone() };
-    let library = &subject.library;
-    let expected = Run::of(ours(subject.profile, second::run_reach), &case, &case.events, case.budget);
+    let Subject { profile, library } = subject;
+    let [run, run_reach] = [second::run, second::run_reach].map(|play| ours(*profile, play));
+    let expected = Run::of(run_reach, &case, &case.events, case.budget);
     let silent = Run { answer: expected.answer & !REACHED, ..expected.clone() };
     tally.long(&expected);
-    compare_play(subject, "run_predecoded", &case, library.run_predecoded, second::run, &silent)?;
+    compare_play(subject, "run_predecoded", &case, library.run_predecoded, run, &silent)?;
     let telling = library.run_predecoded_reach;
-    compare_play(subject, "run_predecoded_reach", &case, telling, second::run_reach, &expected).map(|_| ())
+    compare_play(subject, "run_predecoded_reach", &case, telling, run_reach, &expected).map(|_| ())
 }
 
 /// Up to the first step that reaches. `own` is what `compare_run` has seen of the library's other two runs: this one is
 /// the same where it tells no reach; else a run of a step less has not reached, and one of as many has.
 pub fn compare_inside(subject: &Subject, case: &Case, own: &Run, tally: &mut Tally) -> Result<(), Difference> {
-    let library = &subject.library;
-    let expected = Run::of(ours(subject.profile, second::run_inside), case, &case.events, case.budget);
-    let given = compare_play(subject, "run_inside", case, library.run_inside, second::run_inside, &expected)?;
+    let Subject { profile, library } = subject;
+    let run_inside = ours(*profile, second::run_inside);
+    let expected = Run::of(run_inside, case, &case.events, case.budget);
+    let given = compare_play(subject, "run_inside", case, library.run_inside, run_inside, &expected)?;
     tally.inside(given.reached());
     if !given.reached() {
         return unless_same(&given, own, "run_inside that tells no reach, and the run");
@@ -143,25 +145,24 @@ pub fn unless_same(given: &Run, expected: &Run, what: &str) -> Result<(), Differ
     Err(Difference::told(what, given.departures(expected)))
 }
 
-fn compare_play(
+pub fn compare_play(
     subject: &Subject,
     what: &str,
     case: &Case,
     theirs: impl Plays,
-    play: Ours,
+    ours: impl Plays,
     expected: &Run,
 ) -> Result<Run, Difference> {
     let given = Run::of(theirs, case, &case.events, case.budget);
     if given == *expected {
         return Ok(given);
     }
-    let place = if expected.accepted() { locate(subject.profile, case, theirs, play) } else { "refused".into() };
+    let place = if expected.accepted() { locate(subject.profile, case, theirs, ours) } else { "refused".into() };
     Err(Difference::told(&format!("{what} of {} steps: {place}", case.budget), given.departures(expected)))
 }
 
 /// The first step at which the library departs, as the second implementation comes to it.
-fn locate(profile: Profile, case: &Case, theirs: impl Plays, play: Ours) -> String {
-    let ours = ours(profile, play);
+fn locate(profile: Profile, case: &Case, theirs: impl Plays, ours: impl Plays) -> String {
     for step in 0..case.budget {
         let given = Run::of(theirs, case, &case.events, step + 1);
         let expected = Run::of(ours, case, &case.events, step + 1);

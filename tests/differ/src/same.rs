@@ -4,9 +4,10 @@
 
 use crate::case::Case;
 use crate::report::{word_at, Difference};
-use crate::runs::{event, unless_same, Run};
+use crate::runs::{event, unless_same, Plays, Run};
+use crate::until::{draw_stops, up_to};
 use draw::Urn;
-use linked::{Library, Play};
+use linked::Library;
 use second::registers::{dbcr, tcr};
 use second::{spr, Core, Fault, Kind, Outcome, Profile, Taken, Word};
 use std::collections::BTreeMap;
@@ -51,10 +52,12 @@ pub fn compare(libraries: &[Library; 2], urn: &mut Urn, tally: &mut Tally) -> Re
     let [of_42, of_42x] = libraries;
     same("run", &case, of_42.run, of_42x.run)?;
     same("run_reach", &case, of_42.run_reach, of_42x.run_reach)?;
-    same("run_inside", &case, of_42.run_inside, of_42x.run_inside)
+    same("run_inside", &case, of_42.run_inside, of_42x.run_inside)?;
+    let stops = draw_stops(Profile::Ppe42, &case, urn);
+    same("run_until", &case, up_to(of_42.run_until, &stops), up_to(of_42x.run_until, &stops))
 }
 
-fn same(what: &str, case: &Case, of_42: Play, of_42x: Play) -> Result<(), Difference> {
+fn same(what: &str, case: &Case, of_42: impl Plays, of_42x: impl Plays) -> Result<(), Difference> {
     let expected = Run::of(of_42, case, &case.events, case.budget);
     let given = Run::of(of_42x, case, &case.events, case.budget);
     let what = format!("{what} of {} steps, expected as of the 42 and given as of the 42X", case.budget);

@@ -2,7 +2,7 @@
 
 use differ::{compare, Subject, Tally};
 use draw::Urn;
-use linked::{Library, LINKED, LINKED_42X, REACHED};
+use linked::{Library, Until, LINKED, LINKED_42X, REACHED};
 use second::registers::{isr, msr, tcr, tsr, xer};
 use second::Profile::{self, Ppe42, Ppe42x};
 use second::{Access, Asynchronous, Core, Fault, Kind, Outcome, Taken, Word};
@@ -192,6 +192,45 @@ const WRONGLY: [(&str, Tell); 7] = [
     ("a branch out of memory reaches", |so_far, outcome, [_, after]| so_far || outcome.reached() || after),
 ];
 
+/// Whether the step is the last by these stops: given what it came to, and IAR before it and after it.
+type Stopped = fn(&[u8], Outcome, [u32; 2]) -> bool;
+
+const AT_A_STOP: Stopped = |stops, _, [_, after]| is_stop(stops, after);
+
+fn is_stop(stops: &[u8], address: u32) -> bool {
+    stops.get(address as usize / 4).is_some_and(|stop| *stop != 0)
+}
+
+const STOPPED_WRONGLY: [(&str, Stopped); 17] = [
+    ("no stop is seen", |_, _, _| false),
+    ("every word of the list is a stop", |stops, _, [_, after]| after as usize / 4 < stops.len()),
+    ("every word past the list is a stop", |stops, _, [_, after]| stops.get(after as usize / 4) != Some(&0)),
+    ("a stop is at the word before", |stops, _, [_, after]| is_stop(stops, after.wrapping_add(4))),
+    ("a stop is at the word behind", |stops, _, [_, after]| is_stop(stops, after.wrapping_sub(4))),
+    ("the list has a byte for each byte", |stops, _, [_, after]| {
+        stops.get(after as usize).is_some_and(|stop| *stop != 0)
+    }),
+    ("1 alone is a stop", |stops, _, [_, after]| stops.get(after as usize / 4) == Some(&1)),
+    ("the last bit alone is a stop", |stops, _, [_, after]| {
+        stops.get(after as usize / 4).is_some_and(|stop| stop & 1 != 0)
+    }),
+    ("128 is no stop", |stops, _, [_, after]| is_stop(stops, after) && stops[after as usize / 4] != 128),
+    ("stops beyond 64 words are not seen", |stops, _, [_, after]| after < 4 * 64 && is_stop(stops, after)),
+    ("addresses begin again at 65536", |stops, _, [_, after]| is_stop(stops, after & 0xFFFF)),
+    ("an interrupt comes to no stop", |stops, outcome, [_, after]| {
+        is_stop(stops, after) && !matches!(outcome, Outcome::Interrupted(_))
+    }),
+    ("a fault comes to no stop", |stops, outcome, [_, after]| {
+        is_stop(stops, after) && !matches!(outcome, Outcome::Faulted(..))
+    }),
+    ("a wait goes on at a stop", |stops, outcome, [_, after]| is_stop(stops, after) && outcome != Outcome::Waited),
+    ("a branch to itself goes on at a stop", |stops, outcome, [before, after]| {
+        is_stop(stops, after) && (before != after || outcome == Outcome::Waited)
+    }),
+    ("the step from a stop is the last", |stops, _, [before, _]| is_stop(stops, before)),
+    ("the step from a stop is the last as well", |stops, _, iars| iars.into_iter().any(|iar| is_stop(stops, iar))),
+];
+
 thread_local! {
     static PROFILE: Cell<Profile> = const { Cell::new(Ppe42) };
     static FLAW: Cell<Flaw> = const { Cell::new(|_, _, _| ()) };
@@ -200,6 +239,7 @@ thread_local! {
     static PLAYED: Cell<Played> = const { Cell::new(|profile, _| profile) };
     static SEEN: Cell<Seen> = const { Cell::new(|_, event| event) };
     static TELL: Cell<Tell> = const { Cell::new(RIGHTLY) };
+    static STOPPED: Cell<Stopped> = const { Cell::new(AT_A_STOP) };
 }
 
 /// A step's word, the core and memory before it, and what it came to.
@@ -387,15 +427,16 @@ fn exchanged(core: &Core, event: u8) -> u8 {
     }
 }
 
-/// A run of the second implementation with the flaws, which tells its reach as it is set to, to the end or up to that.
-fn flawed(to_the_end: bool, state: &mut [u8], memory: &mut [u8], events: &[u8], budget: u32) -> u64 {
+/// A run of the second implementation with the flaws, which tells its reach as it is set to, to the end or up to that, and
+/// sees stops as it is set to.
+fn flawed(to_the_end: bool, state: &mut [u8], memory: &mut [u8], events: &[u8], stops: &[u8], budget: u32) -> u64 {
     let profile = PROFILE.get();
     let Ok(mut core) = second::accept(profile, state, memory, events, budget) else {
         return second::run_reach(profile, state, memory, events, budget);
     };
     let mut steps = 0;
-    let mut reached = false;
-    while steps < budget && core.halt == 0 && (to_the_end || !reached) {
+    let (mut reached, mut stopped) = (false, false);
+    while steps < budget && core.halt == 0 && (to_the_end || !reached) && !stopped {
         let event = SEEN.get()(&core, events.get(steps as usize).copied().unwrap_or(0));
         let (before, tried) = (core.clone(), Tried::of(&core, memory, event));
         let word = memory.get(core.iar as usize..).and_then(|rest| rest.first_chunk());
@@ -411,6 +452,7 @@ fn flawed(to_the_end: bool, state: &mut [u8], memory: &mut [u8], events: &[u8], 
         }
         let outside = [before.iar, core.iar].map(|iar| iar as usize >= memory.len());
         reached = TELL.get()(reached, outcome, outside);
+        stopped = STOPPED.get()(stops, outcome, [before.iar, core.iar]);
         steps += 1;
     }
     state.copy_from_slice(&core.to_words().map(u32::to_be_bytes).concat());
@@ -418,22 +460,27 @@ fn flawed(to_the_end: bool, state: &mut [u8], memory: &mut [u8], events: &[u8], 
 }
 
 fn flawed_run_reach(state: &mut [u8], memory: &mut [u8], events: &[u8], budget: u32) -> u64 {
-    flawed(true, state, memory, events, budget)
+    flawed(true, state, memory, events, &[], budget)
 }
 
 fn flawed_run_inside(state: &mut [u8], memory: &mut [u8], events: &[u8], budget: u32) -> u64 {
-    flawed(false, state, memory, events, budget)
+    flawed(false, state, memory, events, &[], budget)
+}
+
+fn flawed_run_until(state: &mut [u8], memory: &mut [u8], events: &[u8], stops: &[u8], budget: u32) -> u64 {
+    flawed(true, state, memory, events, stops, budget) & !REACHED
 }
 
 fn flawed_run(state: &mut [u8], memory: &mut [u8], events: &[u8], budget: u32) -> u64 {
     flawed_run_reach(state, memory, events, budget) & !REACHED
 }
 
-/// That what is set is caught in each of the three runs.
+/// That what is set is caught in each of the four runs.
 fn assert_caught(name: &str) {
     assert!(caught(&Library { run: flawed_run, ..linked() }), "{name}");
     assert!(caught(&Library { run_reach: flawed_run_reach, ..linked() }), "{name}, where the reach is told");
     assert!(caught(&Library { run_inside: flawed_run_inside, ..linked() }), "{name}, up to the reach");
+    assert!(caught(&Library { run_until: flawed_run_until, ..linked() }), "{name}, up to a stop");
 }
 
 #[test]
@@ -474,6 +521,7 @@ fn functions_of_the_other_core() {
         assert!(caught(&Library { run: wrong.run, ..right }));
         assert!(caught(&Library { run_reach: wrong.run_reach, ..right }));
         assert!(caught(&Library { run_inside: wrong.run_inside, ..right }));
+        assert!(caught(&Library { run_until: wrong.run_until, ..right }));
         assert!(caught(&Library { run_predecoded: wrong.run_predecoded, ..right }));
         assert!(caught(&Library { run_predecoded_reach: wrong.run_predecoded_reach, ..right }));
         assert!(caught(&Library { step: wrong.step, ..right }));
@@ -511,6 +559,91 @@ fn flaws_of_telling_a_reach() {
     assert!(caught(&Library { run_reach: flawed_run_reach, ..LINKED }));
     TELL.set(RIGHTLY);
     assert!(!caught(&Library { run_reach: flawed_run_reach, run_inside: flawed_run_inside, ..LINKED }));
+}
+
+#[test]
+fn flaws_of_seeing_a_stop() {
+    for profile in Profile::BOTH {
+        PROFILE.set(profile);
+        for (name, stopped) in STOPPED_WRONGLY {
+            STOPPED.set(stopped);
+            assert!(caught(&Library { run_until: flawed_run_until, ..linked() }), "{name}");
+        }
+        STOPPED.set(AT_A_STOP);
+        assert!(!caught(&Library { run_until: flawed_run_until, ..linked() }));
+    }
+}
+
+/// The second implementation's, of a 42.
+fn until(state: &mut [u8], memory: &mut [u8], events: &[u8], stops: &[u8], budget: u32) -> u64 {
+    second::run_until(Ppe42, state, memory, events, stops, budget)
+}
+
+/// Its answer, with nothing changed.
+fn until_answers(state: &[u8], memory: &[u8], events: &[u8], stops: &[u8], budget: u32) -> u64 {
+    until(&mut state.to_vec(), &mut memory.to_vec(), events, stops, budget)
+}
+
+const UNTIL_FLAWS: [(&str, Until); 12] = [
+    ("a run that begins at a stop takes no step", |state, memory, events, stops, budget| {
+        match second::accept(Ppe42, state, memory, events, budget) {
+            Ok(core) if is_stop(stops, core.iar) => 0,
+            _ => until(state, memory, events, stops, budget),
+        }
+    }),
+    ("the last step is not counted", |state, memory, events, stops, budget| {
+        let steps = until(state, memory, events, stops, budget);
+        steps - (steps > 0 && steps < budget as u64 && state[143] == 0) as u64
+    }),
+    ("the last step is not taken", |state, memory, events, stops, budget| {
+        let answer = until_answers(state, memory, events, stops, budget);
+        second::run(Ppe42, state, memory, events, (answer as u32).saturating_sub(1));
+        answer
+    }),
+    ("a reach is told", |state, memory, events, stops, budget| {
+        match until_answers(state, memory, events, stops, budget) {
+            refusal @ 0x1_0000_0000.. => refusal,
+            steps => second::run_reach(Ppe42, state, memory, events, steps as u32),
+        }
+    }),
+    ("stops past memory are not seen", |state, memory, events, stops, budget| {
+        let seen = stops.len().min(memory.len() / 4);
+        until(state, memory, events, &stops[..seen], budget)
+    }),
+    ("the last byte is not seen", |state, memory, events, stops, budget| {
+        until(state, memory, events, &stops[..stops.len().saturating_sub(1)], budget)
+    }),
+    ("an empty list is refused", |state, memory, events, stops, budget| match stops.len() {
+        0 => 5 << 32,
+        _ => until(state, memory, events, stops, budget),
+    }),
+    ("a list longer than memory is refused", |state, memory, events, stops, budget| {
+        match stops.len() > memory.len() / 4 {
+            true => 5 << 32,
+            false => until(state, memory, events, stops, budget),
+        }
+    }),
+    ("a list of more than 1,048,576 bytes is refused", |state, memory, events, stops, budget| match stops.len() {
+        0..=0x10_0000 => until(state, memory, events, stops, budget),
+        _ => 5 << 32,
+    }),
+    ("a byte of 64 is refused", |state, memory, events, stops, budget| match stops.contains(&64) {
+        true => 5 << 32,
+        false => until(state, memory, events, stops, budget),
+    }),
+    ("events past the budget are not looked at", |state, memory, events, stops, budget| {
+        until(state, memory, &events[..events.len().min(budget as usize)], stops, budget)
+    }),
+    ("a budget too large is not refused", |state, memory, events, stops, budget| {
+        until(state, memory, events, stops, budget.min(1 << 20))
+    }),
+];
+
+#[test]
+fn flaws_of_a_run_up_to_a_stop() {
+    for (name, run_until) in UNTIL_FLAWS {
+        assert!(caught(&Library { run_until, ..LINKED }), "{name}");
+    }
 }
 
 /// What is told of a step with this event: given the core, what the step comes to, and the length of memory.
@@ -883,6 +1016,9 @@ fn of_second() -> Library {
         run: |state, memory, events, budget| second::run(PROFILE.get(), state, memory, events, budget),
         run_reach: |state, memory, events, budget| second::run_reach(PROFILE.get(), state, memory, events, budget),
         run_inside: |state, memory, events, budget| second::run_inside(PROFILE.get(), state, memory, events, budget),
+        run_until: |state, memory, events, stops, budget| {
+            second::run_until(PROFILE.get(), state, memory, events, stops, budget)
+        },
         run_predecoded: |state, memory, events, budget| second::run(PROFILE.get(), state, memory, events, budget),
         run_predecoded_reach: |state, memory, events, budget| {
             second::run_reach(PROFILE.get(), state, memory, events, budget)

@@ -4,6 +4,7 @@ use differ::same::{compare, Tally};
 use draw::Urn;
 use linked::{Library, Play, LINKED, LINKED_42X};
 use second::Profile::Ppe42x;
+use std::cell::Cell;
 
 const CASES: u64 = 3000;
 
@@ -39,13 +40,28 @@ const FLAWS: [(&str, Play); 4] = [
     }),
 ];
 
+thread_local! {
+    static FLAWED: Cell<Play> = const { Cell::new(LINKED_42X.run) };
+}
+
+/// What is set, for as many steps as the right run up to the stops takes.
+fn flawed_until(state: &mut [u8], memory: &mut [u8], events: &[u8], stops: &[u8], budget: u32) -> u64 {
+    let (mut after, mut lent) = (state.to_vec(), memory.to_vec());
+    let steps = second::run_until(Ppe42x, &mut after, &mut lent, events, stops, budget) as u32;
+    FLAWED.get()(state, memory, events, steps)
+}
+
 #[test]
 fn flaws_of_the_42x() {
     for (name, flawed) in FLAWS {
+        FLAWED.set(flawed);
         assert!(caught(Library { run: flawed, ..LINKED_42X }), "{name}");
         assert!(caught(Library { run_reach: flawed, ..LINKED_42X }), "{name}");
         assert!(caught(Library { run_inside: flawed, ..LINKED_42X }), "{name}");
+        assert!(caught(Library { run_until: flawed_until, ..LINKED_42X }), "{name}");
     }
+    FLAWED.set(LINKED_42X.run);
+    assert!(!caught(Library { run_until: flawed_until, ..LINKED_42X }));
 }
 
 #[test]
