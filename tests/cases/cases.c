@@ -9,7 +9,7 @@
 
 #include "ppe42.h"
 
-enum { GUARD = 64, FILL = 0xEE, EDGE = 0x5A, KEEPS = 16384 };
+enum { GUARD = 64, FILL = 0xEE, EDGE = 0x5A, KEEPS = 16384, STOPS = 4096 };
 
 #define ISR_ST 0x00000040u
 #define TCR_DS 0x00600000u // 9:10; on the 42 bit 10 is reserved
@@ -51,6 +51,7 @@ static const char *const told_names[] = {
 enum { TOLD = sizeof told_names / sizeof *told_names };
 
 typedef uint64_t player(uint8_t *, size_t, uint8_t *, size_t, const uint8_t *, size_t, uint32_t);
+typedef uint64_t stopper(uint8_t *, size_t, uint8_t *, size_t, const uint8_t *, size_t, const uint8_t *, size_t, uint32_t);
 typedef uint64_t stepper(uint8_t *, size_t, uint8_t *, size_t, uint8_t);
 typedef uint64_t asker(const uint8_t *, size_t, const uint8_t *, size_t, uint8_t);
 
@@ -58,14 +59,15 @@ typedef uint64_t asker(const uint8_t *, size_t, const uint8_t *, size_t, uint8_t
 struct core {
     const char *name, *prefix;
     player *run, *run_reach, *run_inside, *run_predecoded, *run_predecoded_reach;
+    stopper *run_until;
     stepper *step;
     asker *tell, *access;
 };
 static const struct core cores[] = {
     {"42", "ppe42", ppe42_run, ppe42_run_reach, ppe42_run_inside, ppe42_run_predecoded, ppe42_run_predecoded_reach,
-     ppe42_step, ppe42_tell, ppe42_access},
+     ppe42_run_until, ppe42_step, ppe42_tell, ppe42_access},
     {"42x", "ppe42x", ppe42x_run, ppe42x_run_reach, ppe42x_run_inside, ppe42x_run_predecoded, ppe42x_run_predecoded_reach,
-     ppe42x_step, ppe42x_tell, ppe42x_access},
+     ppe42x_run_until, ppe42x_step, ppe42x_tell, ppe42x_access},
 };
 enum { CORES = sizeof cores / sizeof *cores };
 
@@ -293,13 +295,73 @@ static void check_inside(const struct test *test) {
     free(lent.room);
 }
 
+static uint8_t event_of(const struct test *test, size_t step) {
+    return step < test->events.count ? test->events.bytes[step] : 0;
+}
+
+// Goes on by single steps up to the first that leaves IAR at a stop; answers how many it took.
+static uint32_t step_until(const struct test *test, const struct list *stops, struct lent *lent, uint32_t taken) {
+    uint32_t steps = 0, word;
+    do {
+        if (taken + steps == test->budget ||
+            !test->core->step(lent->state, PPE42_STATE, lent->memory, test->lend, event_of(test, taken + steps)))
+            return steps;
+        steps++;
+        word = ppe42_get(lent->state, PPE42_IAR) / 4;
+    } while (word >= stops->count || !stops->bytes[word]);
+    return steps;
+}
+
+// The run by run_until, gone on with after each stop until the budget is used or the core halts. Beside it single steps go to where
+// each call must end.
+static uint64_t go_on_until(const struct test *test, const struct list *stops, struct lent *lent, struct lent *beside) {
+    uint32_t steps = 0;
+    for (;;) {
+        bool left = test->events.count > steps;
+        uint64_t answer = test->core->run_until(lent->state, PPE42_STATE, lent->memory, test->lend,
+                                                left ? test->events.bytes + steps : NULL,
+                                                left ? test->events.count - steps : 0, stops->bytes, stops->count,
+                                                test->budget - steps);
+        if (test->refusal || ppe42_refusal(answer)) return answer;
+        uint32_t wanted = step_until(test, stops, beside, steps);
+        if (answer != wanted) {
+            differ(test, "run_until", "after %" PRIu32 " steps %" PRIu32 " more wanted, found %016" PRIX64, steps, wanted,
+                   answer);
+            return answer;
+        }
+        steps += wanted;
+        if (!wanted || steps == test->budget) return steps;
+    }
+}
+
+static void check_until(const struct test *test, const struct list *stops) {
+    struct lent lent, beside;
+    lend(test, &lent);
+    lend(test, &beside);
+    uint64_t answer = go_on_until(test, stops, &lent, &beside);
+    compare(test, "run_until", &lent, answer, 0);
+    free(lent.room);
+    free(beside.room);
+}
+
+// With an empty list, with a stop at every word, and with one where the case ends. What stands behind these two would be stops.
+static void check_stops(const struct test *test) {
+    static uint8_t bytes[STOPS + GUARD];
+    uint32_t end = wanted_word(test, PPE42_IAR, wanted_steps(test)) / 4;
+    memset(bytes, EDGE, sizeof bytes);
+    check_until(test, &(struct list){NULL, 0});
+    check_until(test, &(struct list){bytes, STOPS});
+    if (end >= STOPS) return;
+    memset(bytes, 0, end);
+    check_until(test, &(struct list){bytes, end + 1});
+}
+
 // Asks about the next step; nothing may change by that.
 static uint64_t ask(const struct test *test, const char *function, asker *asked, const struct lent *lent, size_t step) {
-    uint8_t event = step < test->events.count ? test->events.bytes[step] : 0;
     struct lent before = *lent;
     before.room = room_for(lent->room_len);
     memcpy(before.room, lent->room, lent->room_len);
-    uint64_t answer = asked(lent->state, PPE42_STATE, lent->memory, test->lend, event);
+    uint64_t answer = asked(lent->state, PPE42_STATE, lent->memory, test->lend, event_of(test, step));
     if (memcmp(before.state_room, lent->state_room, sizeof before.state_room) ||
         memcmp(before.room, lent->room, lent->room_len))
         differ(test, function, "asking has changed state, memory or a byte around them");
@@ -359,8 +421,7 @@ static void check_tells(const struct test *test) {
         if (told != test->tells.bytes[i])
             differ(test, "tell", "before step %zu wanted %s, found %s (%016" PRIX64 ")", i,
                    told_names[test->tells.bytes[i]], told < TOLD ? told_names[told] : "no name", told);
-        uint8_t event = i < test->events.count ? test->events.bytes[i] : 0;
-        steps += test->core->step(lent.state, PPE42_STATE, lent.memory, test->lend, event);
+        steps += test->core->step(lent.state, PPE42_STATE, lent.memory, test->lend, event_of(test, i));
     }
     compare(test, "step", &lent, steps, 0);
     free(lent.room);
@@ -401,6 +462,7 @@ static void check_on_core(const struct test *test) {
     check_engines(test, "run_predecoded", test->core->run, test->core->run_predecoded);
     check_engines(test, "run_predecoded_reach", test->core->run_reach, test->core->run_predecoded_reach);
     check_inside(test);
+    check_stops(test);
     check_asked(test);
     if (test->tells.count) check_tells(test);
     cases++;
