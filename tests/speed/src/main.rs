@@ -1,7 +1,8 @@
 //! `speed [RUNS]`: steps a second of the linked library (`core`; `predecoded`, which keeps decoded words; `inside`, which ends with
-//! the first step that reaches past its memory; `reach`, which tells whether one did; `42X`, which is `core` as a 42X), of the plain
-//! interpreter `second` and of Unicorn where it is built in, on the same loops, how many times as fast as `core` `predecoded` is, and
-//! how many times as fast as `second` the others are. Each figure is the best of RUNS runs.
+//! the first step that reaches past its memory; `until`, which ends at a stop and is given none; `reach`, which tells whether a
+//! step reached; `42X`, which is `core` as a 42X), of the plain interpreter `second` and of Unicorn where it is built in, on the same
+//! loops, how many times as fast as `core` `predecoded` is, and how many times as fast as `second` the others are. Each figure is
+//! the best of RUNS runs.
 //!
 //! `speed PROGRAM STEPS RUNS`: the everyday bench, run as a user does, beside runs of the library one after the other.
 
@@ -31,9 +32,9 @@ fn main() {
     }
     let runs = arguments.first().and_then(|word| word.parse().ok()).unwrap_or(RUNS);
     println!("million steps a second, the best of {runs} runs, and ratios of speeds: 2.00 is twice as fast");
-    show([""; 3], ["", "", "", "", "", "", ""], "predecoded", ["as fast", "as second:", "", "", "", ""]);
-    let ratios = ["core", "predecoded", "inside", "reach", "42X", "Unicorn"];
-    let rates = ["core", "predecoded", "inside", "reach", "42X", "second", "Unicorn"];
+    show([""; 3], [""; 8], "predecoded", ["as fast", "as second:", "", "", "", "", ""]);
+    let ratios = ["core", "predecoded", "inside", "until", "reach", "42X", "Unicorn"];
+    let rates = ["core", "predecoded", "inside", "until", "reach", "42X", "second", "Unicorn"];
     show(["loop", "M", "steps"], rates, "/core", ratios);
     for each in [ARITHMETIC, MEMORY, BRANCHES, LEDGER, ENABLED, DOUBLEWORD, ROTATES, REWRITING] {
         measure(&each, SIZE, STEPS, runs);
@@ -51,15 +52,14 @@ fn main() {
 
 fn measure(each: &Loop, size: usize, steps: u32, runs: u32) {
     let best = best(each, size, steps, runs);
-    let [core, predecoded, inside, reach, of_42x, second, unicorn @ ..] = &best[..] else {
-        unreachable!("six play every loop")
+    let [core, predecoded, inside, until, reach, of_42x, second, unicorn @ ..] = &best[..] else {
+        unreachable!("seven play every loop")
     };
-    let players =
-        [Some(core), Some(predecoded), Some(inside), Some(reach), Some(of_42x), Some(second), unicorn.first()];
+    let [core, predecoded, inside, until, reach, of_42x] = [core, predecoded, inside, until, reach, of_42x].map(Some);
+    let players = [core, predecoded, inside, until, reach, of_42x, Some(second), unicorn.first()];
     let shown = |figure: Option<String>| figure.unwrap_or("-".into());
     let rates = players.map(|best| shown(best.map(|seconds| format!("{:.1}", f64::from(steps) / seconds / 1e6))));
-    let [core, predecoded, inside, reach, of_42x, _, unicorn] = players;
-    let ratios = [core, predecoded, inside, reach, of_42x, unicorn];
+    let ratios = [core, predecoded, inside, until, reach, of_42x, unicorn.first()];
     let ratios = ratios.map(|best| shown(best.map(|seconds| format!("{:.2}", second / seconds))));
     let over_core = core.zip(predecoded).map(|(core, predecoded)| format!("{:.2}", core / predecoded));
     show([each.name, &size.to_string(), &steps.to_string()], rates, shown(over_core), ratios);
@@ -82,9 +82,9 @@ fn best(each: &Loop, size: usize, steps: u32, runs: u32) -> Vec<f64> {
 }
 
 /// A row: what is played, steps a second, predecoded over core, and the others over second.
-fn show<T: Display>(what: [&str; 3], rates: [T; 7], over_core: impl Display, ratios: [T; 6]) {
-    const RATES: [usize; 7] = [7, 10, 7, 7, 7, 7, 7];
-    const RATIOS: [usize; 6] = [7, 10, 7, 7, 7, 7];
+fn show<T: Display>(what: [&str; 3], rates: [T; 8], over_core: impl Display, ratios: [T; 7]) {
+    const RATES: [usize; 8] = [7, 10, 7, 7, 7, 7, 7, 7];
+    const RATIOS: [usize; 7] = [7, 10, 7, 7, 7, 7, 7];
     let row = |cells: &[T], widths: &[usize]| {
         let cells: Vec<_> = cells.iter().zip(widths).map(|(cell, width)| format!("{cell:>width$}")).collect();
         cells.join(" ")
