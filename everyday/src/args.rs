@@ -48,6 +48,13 @@ pub enum What {
     /// branch on, for ba, bla, bca and bcla from 0 on. Each word goes to standard output; what is wrong with a line goes to
     /// standard error, with its column from 0, and the exit status is 1 at the end. Blank lines are passed over.
     Asm(Asm),
+    /// Serve a stock debugger: breakpoints, watchpoints, steps forth and back
+    ///
+    /// Waits on the loopback address for gdb-multiarch, which comes with 'target remote :4242'; name the ELF to it for source
+    /// lines and symbols. 'monitor help' there names what this adds: events, halts and refusals in words, captures. One
+    /// debugger at a time; where one goes, the core stays as it is for the next. gdb's 'kill' ends this. docs/DEBUGGING.md has
+    /// a page of it.
+    Gdb(Gdb),
 }
 
 #[derive(Args)]
@@ -175,4 +182,31 @@ pub struct Srec {
 pub struct Asm {
     /// The lines; without a file, or with -, those of standard input, each answered as it comes
     pub file: Option<PathBuf>,
+}
+
+#[derive(Args)]
+pub struct Gdb {
+    /// A capture; with --memory an ELF, S-records or a raw binary. It stays as it is
+    pub file: PathBuf,
+    /// The port to wait on; 0 for any that is free
+    #[arg(long, value_name = "N", default_value = "4242")]
+    pub port: u16,
+    /// Bytes of memory to lend to firmware: a multiple of 32, at most 1048576
+    #[arg(long, value_name = "BYTES")]
+    pub memory: Option<String>,
+    /// A register changed before the first step
+    #[arg(long, value_name = "NAME=HEX")]
+    pub set: Vec<String>,
+    /// Events, as for run
+    #[arg(long, value_name = "FILE")]
+    pub events: Option<PathBuf>,
+    /// One line of events
+    #[arg(long, value_name = "LINE")]
+    pub event: Vec<String>,
+    /// The ELF that a capture was made of, for symbols in what is said; gdb is given it by itself
+    #[arg(long, value_name = "ELF")]
+    pub elf: Option<PathBuf>,
+    /// Go on even if the core lacks words of the firmware
+    #[arg(long, requires = "memory")]
+    pub anyway: bool,
 }

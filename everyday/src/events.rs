@@ -4,6 +4,9 @@
 const NAMES: [(&str, u8); 6] =
     [("external", 1), ("decrementer", 2), ("timer0", 4), ("timer1", 8), ("timer2", 16), ("timer3", 32)];
 
+/// The byte of all of them.
+pub const ALL: u8 = 63;
+
 #[derive(Default)]
 pub struct Events {
     spans: Vec<Span>,
@@ -37,6 +40,13 @@ impl Events {
         }
         events.settle();
         Ok(events)
+    }
+
+    /// One byte in the steps `from` to `to`.
+    pub fn steady(from: u64, to: u64, byte: u8) -> Events {
+        let mut events = Events { spans: vec![Span { from, to, byte }], ..Events::default() };
+        events.settle();
+        events
     }
 
     fn add_text(&mut self, source: &str, text: &str) -> Result<(), String> {
@@ -142,6 +152,11 @@ impl Events {
         }
     }
 
+    /// Whether there may be one in a step from `step` on.
+    pub fn has_from(&self, step: u64) -> bool {
+        !self.every.is_empty() || self.over.last().is_some_and(|&last| last >= step)
+    }
+
     /// The bytes of `steps` steps from `start` on, without zeros at the end.
     pub fn list(&self, start: u64, steps: u32, list: &mut Vec<u8>) {
         list.clear();
@@ -219,6 +234,11 @@ fn only(words: &[Word], length: usize, shape: &str) -> Result<(), Wrong> {
 
 fn step(word: Word) -> Result<u64, Wrong> {
     crate::numbers::count(word.1).or_else(|sentence| wrong(word, &sentence))
+}
+
+/// A byte as it stands in a line.
+pub fn byte(text: &str) -> Result<u8, String> {
+    event((1, text)).map_err(|wrong| wrong.sentence)
 }
 
 /// Values from 0 to 63 and names, joined by `+`.

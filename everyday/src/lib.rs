@@ -11,6 +11,7 @@ pub mod expect;
 pub mod files;
 pub mod firmware;
 pub mod frame;
+pub mod gdb;
 pub mod library;
 pub mod list;
 pub mod load;

@@ -18,6 +18,7 @@ const RECORD: usize = 79;
 const END_RECORD: usize = 15;
 
 type Run = unsafe extern "C" fn(*mut u8, usize, *mut u8, usize, *const u8, usize, u32) -> u64;
+type RunUntil = unsafe extern "C" fn(*mut u8, usize, *mut u8, usize, *const u8, usize, *const u8, usize, u32) -> u64;
 type Step = unsafe extern "C" fn(*mut u8, usize, *mut u8, usize, u8) -> u64;
 type Ask = unsafe extern "C" fn(*const u8, usize, *const u8, usize, u8) -> u64;
 
@@ -28,6 +29,7 @@ struct Functions {
     run_inside: Run,
     run_predecoded: Run,
     run_predecoded_reach: Run,
+    run_until: RunUntil,
     step: Step,
     tell: Ask,
     access: Ask,
@@ -46,6 +48,7 @@ macro_rules! functions {
         run_inside: $run_inside:ident,
         run_predecoded: $run_predecoded:ident,
         run_predecoded_reach: $run_predecoded_reach:ident,
+        run_until: $run_until:ident,
         step: $step:ident,
         tell: $tell:ident,
         access: $access:ident,
@@ -58,6 +61,17 @@ macro_rules! functions {
         functions!(runs $run $run_reach $run_inside $run_predecoded $run_predecoded_reach);
         functions!(asks $tell $access);
         extern "C" {
+            fn $run_until(
+                state: *mut u8,
+                state_len: usize,
+                memory: *mut u8,
+                memory_len: usize,
+                events: *const u8,
+                events_len: usize,
+                stops: *const u8,
+                stops_len: usize,
+                budget: u32,
+            ) -> u64;
             fn $step(state: *mut u8, state_len: usize, memory: *mut u8, memory_len: usize, event: u8) -> u64;
             fn $capture_check(file: *const u8, len: usize) -> u64;
             fn $capture_write(
@@ -78,6 +92,7 @@ macro_rules! functions {
             run_inside: $run_inside,
             run_predecoded: $run_predecoded,
             run_predecoded_reach: $run_predecoded_reach,
+            run_until: $run_until,
             step: $step,
             tell: $tell,
             access: $access,
@@ -114,6 +129,7 @@ functions!(PPE42 {
     run_inside: ppe42_run_inside,
     run_predecoded: ppe42_run_predecoded,
     run_predecoded_reach: ppe42_run_predecoded_reach,
+    run_until: ppe42_run_until,
     step: ppe42_step,
     tell: ppe42_tell,
     access: ppe42_access,
@@ -130,6 +146,7 @@ functions!(PPE42X {
     run_inside: ppe42x_run_inside,
     run_predecoded: ppe42x_run_predecoded,
     run_predecoded_reach: ppe42x_run_predecoded_reach,
+    run_until: ppe42x_run_until,
     step: ppe42x_step,
     tell: ppe42x_tell,
     access: ppe42x_access,
@@ -278,6 +295,32 @@ impl Profile {
         budget: u32,
     ) -> Result<Answer, Refusal> {
         played(self.functions().run_predecoded_reach, state, memory, events, budget)
+    }
+
+    /// As `run`, but it ends with the first step that leaves IAR at a stop: at a word whose byte of `stops` is not 0.
+    pub fn run_until(
+        self,
+        state: &mut State,
+        memory: &mut [u8],
+        events: &[u8],
+        stops: &[u8],
+        budget: u32,
+    ) -> Result<Answer, Refusal> {
+        let run = self.functions().run_until;
+        let state = &mut state.0;
+        accepted(unsafe {
+            run(
+                state.as_mut_ptr(),
+                state.len(),
+                memory.as_mut_ptr(),
+                memory.len(),
+                events.as_ptr(),
+                events.len(),
+                stops.as_ptr(),
+                stops.len(),
+                budget,
+            )
+        })
     }
 
     pub fn step(self, state: &mut State, memory: &mut [u8], event: u8) -> Result<Answer, Refusal> {

@@ -3,7 +3,7 @@
 use clap::Parser;
 use everyday::args::{Command, What};
 use everyday::profile::Profile;
-use everyday::{asm, complain, diff, list, make, run, show, srec, trace};
+use everyday::{asm, complain, diff, gdb, list, make, run, show, srec, trace};
 use std::process::ExitCode;
 
 fn main() -> ExitCode {
@@ -18,6 +18,7 @@ fn main() -> ExitCode {
         What::Diff(args) => diff::diff(profile, &args),
         What::Srec(args) => srec::srec(profile, &args),
         What::Asm(args) => asm::asm(profile, &args),
+        What::Gdb(args) => gdb::gdb(profile, &args),
     };
     done.unwrap_or_else(|wrong| {
         complain!("{wrong}");

@@ -8,29 +8,45 @@ use crate::library::{BLOCK, MOST};
 use crate::numbers;
 use crate::profile::Profile;
 use crate::registers::{State, IAR};
+use crate::symbols::Symbols;
 use crate::{complain, say};
+use std::path::Path;
 use std::process::ExitCode;
 
 /// Words that are named one by one.
 const NAMED: usize = 20;
 
 pub fn make(profile: Profile, args: &Make) -> Result<ExitCode, String> {
-    let lent = lent(&args.memory)?;
     if files::same(&args.firmware, &args.out) {
         return Err(format!("{} is the firmware itself; name another capture", args.out.display()));
     }
     let file = files::read(&args.firmware, MOST_FIRMWARE, "a firmware")?;
-    let firmware = firmware::load(&args.firmware.display().to_string(), &file, lent)?;
-    let mut capture = Capture { profile, state: State::zero(), memory: firmware.memory.clone() };
-    capture.state.put(IAR, firmware.entry);
-    capture.set(&args.set).map_err(|wrong| with_entry(wrong, firmware.entry))?;
-    if tell_lacking(profile, &firmware) && !args.anyway {
+    let made = made(profile, &args.firmware, &file, &args.memory, &args.set, args.anyway)?;
+    let Some((capture, symbols)) = made else {
         complain!("no capture was written; write the firmware without these (docs/FIRMWARE.md), or add --anyway");
         return Ok(ExitCode::from(1));
-    }
+    };
     capture.write(&args.out)?;
-    say!("wrote {}: memory {lent} bytes, IAR {}", args.out.display(), firmware.symbols.place(capture.state.get(IAR)));
+    let (lent, iar) = (capture.memory.len(), symbols.place(capture.state.get(IAR)));
+    say!("wrote {}: memory {lent} bytes, IAR {iar}", args.out.display());
     Ok(ExitCode::SUCCESS)
+}
+
+/// The capture of a firmware, and its symbols; nothing if the core lacks words of it, which are named, unless it is made anyway.
+pub fn made(
+    profile: Profile,
+    path: &Path,
+    file: &[u8],
+    memory: &str,
+    set: &[String],
+    anyway: bool,
+) -> Result<Option<(Capture, Symbols)>, String> {
+    let firmware = firmware::load(&path.display().to_string(), file, lent(memory)?)?;
+    let mut capture = Capture { profile, state: State::zero(), memory: firmware.memory.clone() };
+    capture.state.put(IAR, firmware.entry);
+    capture.set(set).map_err(|wrong| with_entry(wrong, firmware.entry))?;
+    let lacks = tell_lacking(profile, &firmware);
+    Ok((!lacks || anyway).then_some((capture, firmware.symbols)))
 }
 
 /// What is wrong, with where an IAR that no run accepts came from; of the firmwares S-records alone can have one.

@@ -7,7 +7,7 @@ enum { TRAYS = 24 };
 struct ledger ledger = {.counter = 32764, .filed = 1, .entry = {{.batch = 1, .trays = TRAYS}}};
 
 // Files the batch frozen last, so that the smallest number stands first.
-void file(uint32_t trays) {
+void file_batch(uint32_t trays) {
     int32_t batch = ledger.counter; // sign-extended: lhz and extsh
     unsigned place = ledger.filed++;
     while (place > 0 && ledger.entry[place - 1].batch > batch) {
@@ -20,7 +20,7 @@ void file(uint32_t trays) {
 int main(void) {
     while (ledger.filed < PLACES) {
         ledger.counter++;
-        file(TRAYS);
+        file_batch(TRAYS);
     }
     return 0;
 }

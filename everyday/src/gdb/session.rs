@@ -1,0 +1,270 @@
+//! The remote protocol: what a packet asks for and what it is answered. What is not known here is answered with nothing, which is
+//! how gdb learns that it must do without.
+
+use super::core::{Core, Interrupted, Stopped};
+use super::description::{self, Described};
+use super::monitor;
+use super::packet::{bytes_of, hex, number, LONGEST};
+use super::stops::{Kind, Stop, Stops};
+use crate::library::Refusal;
+use crate::registers::State;
+
+/// A packet that makes no sense.
+pub const MALFORMED: &str = "E01";
+/// Bytes outside the memory lent, or a stop there.
+const OUTSIDE: &str = "E02";
+
+pub struct Session {
+    pub core: Core,
+    registers: Vec<Described>,
+    stopped: Stopped,
+}
+
+/// What is sent for a packet, and what becomes of the session.
+#[derive(Debug, PartialEq)]
+pub struct Answer {
+    pub packets: Vec<Vec<u8>>,
+    pub then: Then,
+}
+
+#[derive(Clone, Copy, Debug, PartialEq)]
+pub enum Then {
+    GoOn,
+    /// Packets are acknowledged no more.
+    WithoutAcks,
+    /// The debugger goes; another may come.
+    Detach,
+    /// The bench ends.
+    End,
+}
+
+impl From<String> for Answer {
+    fn from(text: String) -> Answer {
+        Answer { packets: vec![text.into_bytes()], then: Then::GoOn }
+    }
+}
+
+impl From<&str> for Answer {
+    fn from(text: &str) -> Answer {
+        String::from(text).into()
+    }
+}
+
+impl Answer {
+    fn and(self, then: Then) -> Answer {
+        Answer { then, ..self }
+    }
+}
+
+/// An answer that ends the work on a packet, because it makes no sense or the like.
+type Answered<T> = Result<T, &'static str>;
+
+impl Session {
+    pub fn new(core: Core) -> Session {
+        Session { core, registers: description::registers(), stopped: Stopped::here() }
+    }
+
+    /// A debugger comes: what one before it has set is gone, and the core is where it was left.
+    pub fn begin(&mut self) {
+        self.core.stops = Stops::new(self.core.capture().memory.len());
+        self.stopped = Stopped::here();
+    }
+
+    /// The answer to a packet. A run looks now and then whether it is to stop.
+    pub fn answer(&mut self, packet: &[u8], interrupted: Interrupted) -> Answer {
+        self.answered(packet, interrupted).unwrap_or_else(Answer::from)
+    }
+
+    fn answered(&mut self, packet: &[u8], interrupted: Interrupted) -> Answered<Answer> {
+        let Some((&kind, rest)) = packet.split_first() else { return Ok("".into()) };
+        Ok(match kind {
+            b'?' => self.stopped.told().into(),
+            b'g' => self.all_registers().into(),
+            b'G' => self.put_registers(rest)?.into(),
+            b'p' => self.register(rest)?.into(),
+            b'P' => self.put_register(rest)?.into(),
+            b'm' => self.memory(rest)?.into(),
+            b'M' => self.put_memory(rest, bytes_of)?.into(),
+            b'X' => self.put_memory(rest, |bytes| Some(bytes.to_vec()))?.into(),
+            b'c' | b'C' => self.go(kind, rest, |core| core.go_on(interrupted))?,
+            b's' | b'S' => self.go(kind, rest, Core::step)?,
+            b'b' => match rest {
+                b"c" => self.gone(|core| core.go_back(interrupted)),
+                b"s" => self.gone(Core::step_back),
+                _ => "".into(),
+            },
+            b'Z' => self.set_stop(rest)?.into(),
+            b'z' => self.unset_stop(rest)?.into(),
+            // there is one core, and its thread is whichever is named
+            b'H' | b'T' => "OK".into(),
+            b'D' => Answer::from("OK").and(Then::Detach),
+            b'k' => Answer { packets: Vec::new(), then: Then::End },
+            _ => self.named(packet)?,
+        })
+    }
+
+    /// Packets that have a name.
+    fn named(&mut self, packet: &[u8]) -> Answered<Answer> {
+        let (name, rest) =
+            packet.split_at(packet.iter().position(|byte| b":;,?".contains(byte)).unwrap_or(packet.len()));
+        Ok(match name {
+            b"qSupported" => supported().into(),
+            b"QStartNoAckMode" => Answer::from("OK").and(Then::WithoutAcks),
+            // quitting gdb leaves the core to the next debugger
+            b"qAttached" => "1".into(),
+            b"qXfer" => self.described(rest)?,
+            b"qRcmd" => self.monitored(rest)?,
+            b"vKill" => Answer::from("OK").and(Then::End),
+            _ => "".into(),
+        })
+    }
+
+    fn all_registers(&self) -> String {
+        let state = &self.core.capture().state;
+        self.registers.iter().map(|register| description::shown(state, register)).collect()
+    }
+
+    fn register(&self, digits: &[u8]) -> Answered<String> {
+        let register = self.numbered(digits)?;
+        Ok(description::shown(&self.core.capture().state, register))
+    }
+
+    fn numbered(&self, digits: &[u8]) -> Answered<&Described> {
+        let number = number(digits).ok_or(MALFORMED)?;
+        self.registers.get(number as usize).ok_or(MALFORMED)
+    }
+
+    fn put_register(&mut self, rest: &[u8]) -> Answered<String> {
+        let (register, digits) = split(rest, b'=')?;
+        let Described { name, place } = self.numbered(register)?;
+        let word = number(digits).filter(|_| digits.len() == 8).ok_or(MALFORMED)?;
+        let Some(place) = *place else { return Ok(format!("E.the core has no {name}; there is nothing to write")) };
+        let mut state = self.core.capture().state.clone();
+        state.put(place, word);
+        Ok(self.put_state(state))
+    }
+
+    /// All registers at once; what is not there is left as it is.
+    fn put_registers(&mut self, digits: &[u8]) -> Answered<String> {
+        if digits.len() != 8 * self.registers.len() {
+            return Err(MALFORMED);
+        }
+        let mut state = self.core.capture().state.clone();
+        for (register, digits) in self.registers.iter().zip(digits.chunks(8)) {
+            if let (Some(place), false) = (register.place, digits == b"xxxxxxxx") {
+                state.put(place, number(digits).ok_or(MALFORMED)?);
+            }
+        }
+        Ok(self.put_state(state))
+    }
+
+    fn put_state(&mut self, state: State) -> String {
+        self.core.put_state(state).map_or_else(|words| format!("E.{words}"), |()| "OK".into())
+    }
+
+    /// As many of the bytes asked for as are inside, or an error if the first is not.
+    fn memory(&self, rest: &[u8]) -> Answered<String> {
+        let (address, length) = split(rest, b',')?;
+        let address = number(address).ok_or(MALFORMED)? as usize;
+        let length = (number(length).ok_or(MALFORMED)? as usize).min(LONGEST / 2);
+        let bytes = self.core.capture().memory.get(address..).filter(|bytes| !bytes.is_empty()).ok_or(OUTSIDE)?;
+        Ok(hex(&bytes[..length.min(bytes.len())]))
+    }
+
+    fn put_memory(&mut self, rest: &[u8], read: impl Fn(&[u8]) -> Option<Vec<u8>>) -> Answered<&'static str> {
+        let (place, data) = split(rest, b':')?;
+        let (address, length) = split(place, b',')?;
+        let address = number(address).ok_or(MALFORMED)?;
+        let length = number(length).ok_or(MALFORMED)? as usize;
+        let bytes = read(data).filter(|bytes| bytes.len() == length).ok_or(MALFORMED)?;
+        if self.core.put_memory(address, &bytes) {
+            Ok("OK")
+        } else {
+            Err(OUTSIDE)
+        }
+    }
+
+    /// On from where the core is; a signal that gdb would pass on means nothing to it, and IAR is written by itself.
+    fn go(
+        &mut self,
+        kind: u8,
+        rest: &[u8],
+        go: impl FnOnce(&mut Core) -> Result<Stopped, Refusal>,
+    ) -> Answered<Answer> {
+        let has_signal = kind.is_ascii_uppercase();
+        if has_signal && (rest.len() != 2 || number(rest).is_none()) || !has_signal && !rest.is_empty() {
+            return Err(MALFORMED);
+        }
+        Ok(self.gone(go))
+    }
+
+    fn gone(&mut self, go: impl FnOnce(&mut Core) -> Result<Stopped, Refusal>) -> Answer {
+        let stopped = match go(&mut self.core) {
+            Ok(stopped) => stopped,
+            // what was accepted is accepted, so this does not come
+            Err(refusal) => return format!("E.refusal {refusal}").into(),
+        };
+        let words = stopped.words.iter().map(|words| console(&format!("ppe42: {words}\n")));
+        let packets = words.chain([stopped.told().into_bytes()]).collect();
+        self.stopped = stopped;
+        Answer { packets, then: Then::GoOn }
+    }
+
+    fn set_stop(&mut self, rest: &[u8]) -> Answered<&'static str> {
+        let Some(stop) = stop(rest)? else { return Ok("") };
+        if self.core.stops.set(stop) {
+            Ok("OK")
+        } else {
+            Err(OUTSIDE)
+        }
+    }
+
+    fn unset_stop(&mut self, rest: &[u8]) -> Answered<&'static str> {
+        let Some(stop) = stop(rest)? else { return Ok("") };
+        self.core.stops.unset(stop);
+        Ok("OK")
+    }
+
+    /// A part of the description of the registers.
+    fn described(&self, rest: &[u8]) -> Answered<Answer> {
+        let Some(part) = rest.strip_prefix(b":features:read:target.xml:") else { return Ok("".into()) };
+        let (offset, length) = split(part, b',')?;
+        let offset = number(offset).ok_or(MALFORMED)? as usize;
+        let length = (number(length).ok_or(MALFORMED)? as usize).min(LONGEST / 2);
+        let xml = description::xml(self.core.capture().profile);
+        let left = xml.get(offset..).ok_or(MALFORMED)?;
+        let more = length < left.len();
+        Ok(format!("{}{}", if more { "m" } else { "l" }, if more { &left[..length] } else { left }).into())
+    }
+
+    fn monitored(&mut self, rest: &[u8]) -> Answered<Answer> {
+        let line = rest.strip_prefix(b",").and_then(bytes_of).ok_or(MALFORMED)?;
+        let text = monitor::command(&mut self.core, &String::from_utf8_lossy(&line));
+        let parts = text.as_bytes().chunks(LONGEST / 4).map(|part| [b"O", hex(part).as_bytes()].concat());
+        Ok(Answer { packets: parts.chain([b"OK".to_vec()]).collect(), then: Then::GoOn })
+    }
+}
+
+fn supported() -> String {
+    format!("PacketSize={LONGEST:x};qXfer:features:read+;QStartNoAckMode+;ReverseStep+;ReverseContinue+")
+}
+
+/// Text for gdb's console, while the core runs.
+fn console(text: &str) -> Vec<u8> {
+    format!("O{}", hex(text.as_bytes())).into_bytes()
+}
+
+fn split(bytes: &[u8], at: u8) -> Answered<(&[u8], &[u8])> {
+    let middle = bytes.iter().position(|&byte| byte == at).ok_or(MALFORMED)?;
+    Ok((&bytes[..middle], &bytes[middle + 1..]))
+}
+
+/// `0,ADDRESS,BYTES`; none of another kind than there is. Conditions and commands are gdb's to look after.
+fn stop(rest: &[u8]) -> Answered<Option<Stop>> {
+    let (kind, place) = split(rest, b',')?;
+    let [digit] = *kind else { return Err(MALFORMED) };
+    let Some(kind) = Kind::of(digit) else { return Ok(None) };
+    let (address, bytes) = split(place, b',')?;
+    let (address, bytes) = number(address).zip(number(bytes)).ok_or(MALFORMED)?;
+    Ok(Some(Stop { kind, address, bytes }))
+}
