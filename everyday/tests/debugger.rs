@@ -10,13 +10,17 @@ use common::root;
 use server::Server;
 use std::fs::{self, File};
 use std::path::{Path, PathBuf};
-use std::process::{Command, Stdio};
+use std::process::{Child, Command, Stdio};
 use std::sync::OnceLock;
+use std::thread;
+use std::time::Duration;
 
-const FIRMWARE: [(&str, &[&str]); 3] = [
+/// The last has words that the PPE 42 lacks, so that an ELF is all that comes of it.
+const FIRMWARE: [(&str, &[&str]); 4] = [
     ("ledger", &["examples/ledger/start.s", "examples/ledger/ledger.c"]),
     ("tick", &["examples/tick/vectors.s", "examples/tick/tick.c"]),
     ("look", &["examples/ledger/start.s", "everyday/tests/firmware/look.c"]),
+    ("frame", &["everyday/tests/firmware/frame.s"]),
 ];
 
 /// The folder with the firmware, which tells its source lines, compiled once.
@@ -28,13 +32,14 @@ fn firmware() -> &'static Path {
             // from the root, so that gdb names the files as they stand in the repository
             let mut build = Command::new("examples/ledger/build");
             build.current_dir(root()).arg("-o").arg(folder.join(name)).arg("-g").args(sources);
-            assert!(build.output().expect("examples/ledger/build runs").status.success(), "{name} does not compile");
+            build.output().expect("examples/ledger/build runs");
+            assert!(folder.join(name).with_extension("elf").exists(), "{name} does not compile");
         }
         folder
     })
 }
 
-/// A folder for one test, with the firmware in it.
+/// A folder for one test, with the firmware and a list of events in it.
 fn folder(name: &str) -> PathBuf {
     let folder = Path::new(env!("CARGO_TARGET_TMPDIR")).join("debugger").join(name);
     let _ = fs::remove_dir_all(&folder);
@@ -42,13 +47,13 @@ fn folder(name: &str) -> PathBuf {
     for elf in FIRMWARE.map(|(name, _)| format!("{name}.elf")) {
         fs::copy(firmware().join(&elf), folder.join(&elf)).expect("the firmware is there");
     }
+    fs::write(folder.join("ticks.txt"), "every 100 timer0\n").expect("the folder can be written");
     folder
 }
 
-/// What gdb prints for these commands, with each of them before it.
-fn gdb(folder: &Path, elf: &str, port: u16, commands: &[&str]) -> String {
-    let printed = folder.join("printed");
-    let out = File::create(&printed).expect("the folder can be written");
+/// gdb with these commands. It prints each of them, and what comes of it, into a file of the folder.
+fn gdb(folder: &Path, elf: &str, port: u16, commands: &[&str]) -> Child {
+    let out = File::create(folder.join(PRINTED)).expect("the folder can be written");
     let mut command = Command::new("gdb-multiarch");
     command.current_dir(folder).args(["-nx", "-batch", elf]);
     for line in commands {
@@ -56,8 +61,15 @@ fn gdb(folder: &Path, elf: &str, port: u16, commands: &[&str]) -> String {
         command.arg("-ex").arg(format!("echo (gdb) {line}\\n")).arg("-ex").arg(done);
     }
     let error = out.try_clone().expect("one file for both");
-    command.stdin(Stdio::null()).stdout(out).stderr(error).status().expect("gdb-multiarch runs");
-    let printed = fs::read_to_string(&printed).expect("gdb prints text");
+    command.stdin(Stdio::null()).stdout(out).stderr(error).spawn().expect("gdb-multiarch runs")
+}
+
+const PRINTED: &str = "printed";
+
+/// What it has printed when it ends.
+fn printed(folder: &Path, mut gdb: Child) -> String {
+    gdb.wait().expect("it is our child");
+    let printed = fs::read_to_string(folder.join(PRINTED)).expect("gdb prints text");
     // an included file is named with its folder
     printed.replace('\t', "    ").replace(&format!("{}/", root().display()), "")
 }
@@ -79,7 +91,7 @@ fn played(name: &str, stored: &str) {
         let server = Server::start(&folder, &arguments);
         let commands: Vec<&str> = part.lines().filter_map(|line| line.strip_prefix("(gdb) ")).collect();
         let elf = arguments.iter().rfind(|argument| argument.ends_with(".elf")).expect("an ELF is named");
-        let printed = gdb(&folder, elf, server.port, &commands);
+        let printed = printed(&folder, gdb(&folder, elf, server.port, &commands));
         found += &format!("{first}\n{}", printed.strip_suffix(DETACHED).unwrap_or(&printed));
     }
     let kept = folder.with_extension("found");
@@ -114,6 +126,29 @@ fn handler() {
 #[test]
 fn fault() {
     transcript("fault");
+}
+
+#[test]
+fn frame() {
+    transcript("frame");
+}
+
+/// A Ctrl-C in gdb stops a core that waits for what does not come.
+#[test]
+fn ctrl_c() {
+    let folder = folder("ctrl_c");
+    let server = Server::start(&folder, &["tick.elf", "--memory", "16384", "--set", "DBCR=01000000"]);
+    let gdb = gdb(&folder, "tick.elf", server.port, &["target remote :4242", "continue", "print $msr"]);
+    let out = || fs::read_to_string(folder.join(PRINTED)).expect("gdb prints text");
+    while !out().contains("(gdb) continue") {
+        thread::sleep(Duration::from_millis(10));
+    }
+    // until gdb has sent its packet
+    thread::sleep(Duration::from_millis(500));
+    assert!(Command::new("kill").args(["-INT", &gdb.id().to_string()]).status().expect("kill runs").success());
+    let printed = printed(&folder, gdb);
+    assert!(printed.contains("Program received signal SIGINT, Interrupt."), "{printed}");
+    assert!(printed.contains("$1 = [ WE EE "), "{printed}");
 }
 
 /// The page shows what comes.
