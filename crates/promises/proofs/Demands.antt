@@ -86,7 +86,7 @@ used-cases p false n i ev s m r e l h =
     rw k
 
 -- a run with just the budget that it used is the same run
-used-budget : (p : Profile) (n i : ℕ) (ev : List ℕ) (s : State) (m : List ℕ) → (let r = runOf p n i ev s m in runOf p (r .steps - i) i ev s m ≡ r)
+pub used-budget : (p : Profile) (n i : ℕ) (ev : List ℕ) (s : State) (m : List ℕ) → (let r = runOf p n i ev s m in runOf p (r .steps - i) i ev s m ≡ r)
 unfolding runOf
 used-budget p zero i ev s m =
     let k : i - i ≡ 0 = omega arith in

@@ -24,6 +24,7 @@ use Rattle.run.specs.Lent.{answerOf}
 use Rattle.run.specs.declared.outcome.Outcome.{Outcome}
 use Rattle.run.specs.declared.lent.Answer.{Answer}
 use Rattle.run.specs.declared.reach.Reached.{Reached}
+use Rattle.until.specs.Until.{untilOutcome, untilMemory}
 use Rattle.capture.specs.Read.{readOf, partOf}
 use Rattle.capture.specs.Write.{writtenOf as captureWritten, outOf}
 use Rattle.capture.specs.declared.read.Read.{Read}
@@ -35,6 +36,7 @@ use Rattle.srecord.specs.declared.write.Written.{Written as SrecordWritten}
 use Rattle.abi.specs.Captures.{checkAnswer, writeAnswer, writeOut}
 use Rattle.abi.specs.Records.{srecReadAnswer, srecWriteAnswer}
 use Rattle.abi_run.specs.Runs.{runAnswer, runState, runLent, reachAnswer, insideAnswer, insideState, insideLent, stepAnswer, stepState, stepLent}
+use Rattle.abi_until.specs.Runs.{untilAnswer, untilState, untilLent}
 use Rattle.abi_tell.specs.Told.{tellAnswer, accessAnswer}
 use Rattle.abi_asm.specs.Words.{legalOf, rewriteOf}
 use Rattle.abi_asm.specs.Lines.{Assembles, assembledAnswer, listedAnswer}
@@ -70,6 +72,11 @@ module _ (p : Profile) (s : State) (m : List ℕ) where
       → (r ≡ record { outcome = insideOutcome p s m ev budget; past = runPast p s m ev budget }) × (m′ ≡ insideMemory p s m ev budget)
       → (q ≡ record { outcome = insideOutcome p s m ev budget; past = runPast p s m ev budget }) × (n′ ≡ insideMemory p s m ev budget) → (r ≡ q) × (m′ ≡ n′)
   inside-determined ev budget r q m′ n′ = two
+
+  pub until-determined : (ev stops : List ℕ) (budget : ℕ) (r q : Outcome) (m′ n′ : List ℕ)
+      → (r ≡ untilOutcome p s m ev stops budget) × (m′ ≡ untilMemory p s m ev stops budget) → (q ≡ untilOutcome p s m ev stops budget) × (n′ ≡ untilMemory p s m ev stops budget)
+      → (r ≡ q) × (m′ ≡ n′)
+  until-determined ev stops budget r q m′ n′ = two
 
   pub step-determined : (e : ℕ) (r q : Outcome) (m′ n′ : List ℕ)
       → (r ≡ stepOutcome p s m e) × (m′ ≡ stepMemory p s m e) → (q ≡ stepOutcome p s m e) × (n′ ≡ stepMemory p s m e) → (r ≡ q) × (m′ ≡ n′)
@@ -151,6 +158,11 @@ module _ (p : Profile) (s m : List ℕ) where
       → (r ≡ insideAnswer p s m ev budget) × ((s′ ≡ insideState p s m ev budget) × (m′ ≡ insideLent p s m ev budget)) → (q ≡ insideAnswer p s m ev budget) × ((t′ ≡ insideState p s m ev budget) × (n′ ≡ insideLent p s m ev budget))
       → (r ≡ q) × ((s′ ≡ t′) × (m′ ≡ n′))
   c-inside-determined ev budget r q s′ t′ m′ n′ = three
+
+  pub c-until-determined : (ev stops : List ℕ) (budget r q : ℕ) (s′ t′ m′ n′ : List ℕ)
+      → (r ≡ untilAnswer p s m ev stops budget) × ((s′ ≡ untilState p s m ev stops budget) × (m′ ≡ untilLent p s m ev stops budget))
+      → (q ≡ untilAnswer p s m ev stops budget) × ((t′ ≡ untilState p s m ev stops budget) × (n′ ≡ untilLent p s m ev stops budget)) → (r ≡ q) × ((s′ ≡ t′) × (m′ ≡ n′))
+  c-until-determined ev stops budget r q s′ t′ m′ n′ = three
 
   pub c-step-determined : (e r q : ℕ) (s′ t′ m′ n′ : List ℕ)
       → (r ≡ stepAnswer p s m e) × ((s′ ≡ stepState p s m e) × (m′ ≡ stepLent p s m e)) → (q ≡ stepAnswer p s m e) × ((t′ ≡ stepState p s m e) × (n′ ≡ stepLent p s m e))

@@ -11,7 +11,9 @@ pub mod Told
 pub mod Determined
 pub mod Lent
 pub mod Worked
+pub mod Cut
 pub mod Inside
+pub mod Until
 pub mod Lines
 pub mod Files
 pub mod Same

@@ -3,3 +3,4 @@ pub mod Reach
 pub mod Told
 pub mod Growth
 pub mod Same
+pub mod Stopped
