@@ -169,7 +169,8 @@ impl Core {
     pub fn go_back(&mut self, interrupted: Interrupted) -> Result<Stopped, Refusal> {
         let mut end = self.history.now.at;
         let mut found = None;
-        for copy in self.history.copies() {
+        let searched = if self.stops.is_empty() { 0 } else { usize::MAX };
+        for copy in self.history.copies().take(searched) {
             found = match self.last_reason(copy, end, interrupted)? {
                 Looked::Interrupted => return Ok(Stopped::by(INT)),
                 Looked::Through(found) => found,

@@ -49,27 +49,39 @@ fn word(text: &str) -> (&str, &str) {
 }
 
 fn event(core: &mut Core, line: &str) -> Result<String, String> {
-    let at = core.history.now.at;
     match word(line) {
         ("", _) => Err("name the event: monitor event now EVENT, hold EVENT, release, or a line".into()),
-        ("now", event) => {
-            add(core, &format!("at {at} {event}"), events::byte(event).map(|byte| Events::steady(at, at, byte)))
-        }
-        ("hold", event) => {
-            core.history.schedule.hold(events::byte(event)?, at);
-            core.history.was_scheduled();
-            Ok(format!("held from step {at} on"))
-        }
-        ("release", event) => {
-            let byte = if event.is_empty() { events::ALL } else { events::byte(event)? };
-            let released = core.history.schedule.release(byte, at);
-            core.history.was_scheduled();
-            match released {
-                0 => Err("no such event is held; 'monitor events' names what is".into()),
-                byte => Ok(format!("{}: no more from step {at} on", events::shown(byte))),
-            }
-        }
+        ("now", event) => now(core, event),
+        ("hold", event) => hold(core, event),
+        ("release", event) => release(core, event),
         _ => add(core, line, Events::read(&[("event".into(), line.into())])),
+    }
+}
+
+fn now(core: &mut Core, event: &str) -> Result<String, String> {
+    let at = core.history.now.at;
+    let events = events::byte(event).map(|byte| Events::steady(at, at, byte));
+    add(core, &format!("at {at} {event}"), events)
+}
+
+fn hold(core: &mut Core, event: &str) -> Result<String, String> {
+    let (at, byte) = (core.history.now.at, events::byte(event)?);
+    if byte == 0 {
+        return Err("0 is no event; name one to hold".into());
+    }
+    core.history.schedule.hold(byte, at);
+    core.history.was_scheduled();
+    Ok(format!("{}: held from step {at} on", events::shown(byte)))
+}
+
+fn release(core: &mut Core, event: &str) -> Result<String, String> {
+    let at = core.history.now.at;
+    let byte = if event.is_empty() { events::ALL } else { events::byte(event)? };
+    let released = core.history.schedule.release(byte, at);
+    core.history.was_scheduled();
+    match released {
+        0 => Err("no such event is held; 'monitor events' names what is".into()),
+        byte => Ok(format!("{}: no more from step {at} on", events::shown(byte))),
     }
 }
 

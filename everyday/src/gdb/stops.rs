@@ -79,6 +79,10 @@ impl Stops {
         Stops { all: BTreeSet::new(), words: vec![0; memory / 4] }
     }
 
+    pub fn is_empty(&self) -> bool {
+        self.all.is_empty()
+    }
+
     /// Whether it can be set: it is inside memory, and a breakpoint is at a word.
     pub fn set(&mut self, stop: Stop) -> bool {
         let end = stop.address as usize + stop.bytes as usize;
