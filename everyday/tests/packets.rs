@@ -355,10 +355,10 @@ fn going_on_is_a_third_as_fast_as_run() {
         let report: Value = serde_json::from_str(&text(&run.stdout)).expect("a report");
         let server = Server::start(&folder, &["start.capture"]);
         let mut client = server.client();
-        let free = timed(&mut client, "c", "T05");
+        let free = timed(&mut client, "c", "T07");
         assert_eq!(client.ask("p33"), "00000003", "it halted by the trap");
         assert_eq!((client.ask("bc").as_str(), client.ask("Z0,20,4").as_str()), ("T05replaylog:begin;", "OK"));
-        let with_breakpoint = timed(&mut client, "c", "T05");
+        let with_breakpoint = timed(&mut client, "c", "T07");
         let seconds = [report["seconds"].as_f64().expect("seconds"), free, with_breakpoint];
         least.iter_mut().zip(seconds).for_each(|(least, seconds)| *least = least.min(seconds));
     }

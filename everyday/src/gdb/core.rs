@@ -31,6 +31,7 @@ const INT: u8 = 2;
 const ILL: u8 = 4;
 const TRAP: u8 = 5;
 const ABRT: u8 = 6;
+const EMT: u8 = 7;
 const BUS: u8 = 10;
 const SEGV: u8 = 11;
 
@@ -107,7 +108,7 @@ impl Core {
 
     /// One step; one that meets a watchpoint is not taken.
     pub fn step(&mut self) -> Result<Stopped, Refusal> {
-        let before = self.stays_halted().or(self.met(&self.history.now).map(Stopped::by_watchpoint));
+        let before = self.stays_halted()?.or(self.met(&self.history.now).map(Stopped::by_watchpoint));
         if let Some(stopped) = before {
             return Ok(stopped);
         }
@@ -117,7 +118,7 @@ impl Core {
 
     /// Steps until there is a reason to stop.
     pub fn go_on(&mut self, interrupted: Interrupted) -> Result<Stopped, Refusal> {
-        if let Some(stopped) = self.stays_halted() {
+        if let Some(stopped) = self.stays_halted()? {
             return Ok(stopped);
         }
         loop {
@@ -253,10 +254,13 @@ impl Core {
         }
     }
 
-    fn stays_halted(&self) -> Option<Stopped> {
+    fn stays_halted(&self) -> Result<Option<Stopped>, Refusal> {
         let code = self.capture().state.get(HALT);
+        if code == 0 {
+            return Ok(None);
+        }
         let words = format!("the core is halted with {code}, so no step was taken; 'set $halt = 0' lets it go on");
-        (code != 0).then_some(Stopped { words: Some(words), ..Stopped::here() })
+        Ok(Some(Stopped { words: Some(words), ..Stopped::by(signal(self.history.last()?.as_ref())) }))
     }
 }
 
@@ -270,15 +274,14 @@ fn changes_memory(mut capture: Capture, event: u8) -> bool {
     capture.profile.step(&mut capture.state, &mut capture.memory, event).is_ok() && capture.memory != before
 }
 
-/// The signal for the step that halted the core.
+/// The signal for the step that halted the core. It is never TRAP, which to gdb ends a step and not all that are to be taken.
 fn signal(last: Option<&Step>) -> u8 {
-    let Some(step) = last else { return TRAP };
-    match step.told {
-        Told::Faults(Fault::DataStorage | Fault::InstructionStorage) => SEGV,
-        Told::Faults(Fault::Alignment) => BUS,
-        Told::Faults(Fault::Illegal) => ILL,
-        Told::Faults(Fault::Trap) => TRAP,
-        _ if step.after.get(HALT) == 3 => TRAP,
+    let halted = last.filter(|step| step.halted().is_some());
+    match halted.map(|step| (step.told, step.after.get(HALT))) {
+        Some((Told::Faults(Fault::DataStorage | Fault::InstructionStorage), _)) => SEGV,
+        Some((Told::Faults(Fault::Alignment), _)) => BUS,
+        Some((Told::Faults(Fault::Illegal), _)) => ILL,
+        Some((Told::Faults(Fault::Trap), _) | (_, 3)) => EMT,
         _ => ABRT,
     }
 }
