@@ -155,6 +155,7 @@ fn ctrl_c() {
 #[test]
 fn the_page() {
     let page = fs::read_to_string(root().join("docs/DEBUGGING.md")).expect("the page is there");
+    let page = page.replace("target/ledger.elf", "ledger.elf");
     let lines: Vec<&str> = page.lines().skip_while(|line| !line.starts_with("    $ ./ppe42 gdb")).collect();
     let block = lines.iter().take_while(|line| line.is_empty() || line.starts_with("    "));
     let block: String = block.map(|line| format!("{}\n", line.strip_prefix("    ").unwrap_or(line))).collect();

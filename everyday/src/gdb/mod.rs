@@ -35,7 +35,10 @@ use std::thread;
 use std::time::Duration;
 
 pub fn gdb(profile: Profile, args: &Gdb) -> Result<ExitCode, String> {
-    let Some((capture, symbols)) = read(profile, args)? else { return Ok(ExitCode::from(1)) };
+    let Some((capture, symbols)) = read(profile, args)? else {
+        complain!("nothing is served; write the firmware without these (docs/FIRMWARE.md), or add --anyway");
+        return Ok(ExitCode::from(1));
+    };
     let mut schedule = Schedule::default();
     if args.events.is_some() || !args.event.is_empty() {
         schedule.add("those of the command line".into(), load::events(&args.events, &args.event)?, 0);

@@ -102,7 +102,7 @@ impl Core {
     /// The same as `run`, but the first step that leaves IAR at a stop is the last. Of the stops each word has a byte,
     /// which is not 0 where there is one.
     pub fn run_until(&mut self, profile: Profile, memory: &mut [u8], events: &[u8], stops: &[u8], budget: u32) -> u32 {
-        self.play(profile, memory, events, budget, |_, iar| stops.get(iar as usize / 4).is_none_or(|stop| *stop == 0))
+        self.play(profile, memory, events, budget, |_, iar| stops.get(iar as usize / 4).map_or(true, |stop| *stop == 0))
     }
 
     /// Goes on after a step if what it came to and the IAR that it left let it.
