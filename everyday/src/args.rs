@@ -3,8 +3,8 @@
 use clap::{Args, Parser, Subcommand};
 use std::path::PathBuf;
 
-/// The everyday bench: captures of a PPE 42 core, or with --42x of a PPE 42X, made, shown, listed, run, traced, compared and
-/// written as S-records, and lines assembled, by the proved library.
+/// The everyday bench: captures of a PPE 42 core, or with --42x of a PPE 42X, made, shown, listed, run, traced, compared, written
+/// as S-records and served to a debugger, and lines assembled, by the proved library.
 ///
 /// Steps are numbered from 0. Addresses and words are in hex, sizes and counts decimal (K, M and G are thousands). Exit
 /// status: 0 all is well; 1 not as expected, a difference, words that the core lacks, or a line that asm refused; 2 the

@@ -144,7 +144,7 @@ fn ctrl_c() {
         thread::sleep(Duration::from_millis(10));
     }
     // until gdb has sent its packet
-    thread::sleep(Duration::from_millis(500));
+    thread::sleep(Duration::from_secs(2));
     assert!(Command::new("kill").args(["-INT", &gdb.id().to_string()]).status().expect("kill runs").success());
     let printed = printed(&folder, gdb);
     assert!(printed.contains("Program received signal SIGINT, Interrupt."), "{printed}");

@@ -268,3 +268,74 @@ fn stop(rest: &[u8]) -> Answered<Option<Stop>> {
     let (address, bytes) = number(address).zip(number(bytes)).ok_or(MALFORMED)?;
     Ok(Some(Stop { kind, address, bytes }))
 }
+
+#[cfg(test)]
+mod tests {
+    use super::super::history::tests::counting;
+    use super::super::history::History;
+    use super::super::schedule::Schedule;
+    use super::*;
+    use crate::symbols::Symbols;
+
+    fn session() -> Session {
+        Session::new(Core::new(History::new(counting(), Schedule::default()), Symbols::default()))
+    }
+
+    fn ask(session: &mut Session, packet: &str) -> String {
+        let answer = session.answer(packet.as_bytes(), &mut || true);
+        String::from_utf8(answer.packets.concat()).expect("answers are text")
+    }
+
+    /// Packets that gdb sends only where it must: one register by itself, and all of them written.
+    #[test]
+    fn registers_one_by_one_and_all_at_once() {
+        let mut session = session();
+        let all = ask(&mut session, "g");
+        assert_eq!(all.len(), 8 * 52);
+        let one_by_one: String = (0..52).map(|number| ask(&mut session, &format!("p{number:x}"))).collect();
+        assert_eq!(one_by_one, all);
+        assert_eq!(all.matches("xxxxxxxx").count(), 16);
+        let written = format!("00000007{}", &all[8..]);
+        assert_eq!(ask(&mut session, &format!("G{written}")), "OK");
+        assert_eq!(ask(&mut session, "g"), written);
+        let refused = written.replace("xxxxxxxx", "00000000").replacen("00018000", "80018000", 1);
+        assert!(ask(&mut session, &format!("G{refused}")).starts_with("E.refusal 3: MSR is 80018000"));
+        assert_eq!(ask(&mut session, "g"), written, "nothing of it was written");
+        assert_eq!(ask(&mut session, "Pb=00000000"), "E.the core has no r11; there is nothing to write");
+        for wrong in
+            ["p34", "p", "Pzz=0", "P0=0", "P0", "G00", "m", "m0", "mfffffffff,4", "c4", "C", "Z0", "Z0,0", "qRcmd,5"]
+        {
+            assert_eq!(ask(&mut session, wrong), MALFORMED, "{wrong}");
+        }
+    }
+
+    #[test]
+    fn the_description_comes_in_parts() {
+        let mut session = session();
+        let (mut parts, mut offset) = (String::new(), 0);
+        loop {
+            let part = ask(&mut session, &format!("qXfer:features:read:target.xml:{offset:x},c8"));
+            parts += &part[1..];
+            offset += part.len() - 1;
+            if part.starts_with('l') {
+                break;
+            }
+        }
+        assert_eq!(parts, description::xml(counting().profile));
+        assert!(ask(&mut session, "qXfer:features:read:other.xml:0,c8").is_empty());
+    }
+
+    #[test]
+    fn memory_ends_where_it_ends() {
+        let mut session = session();
+        assert_eq!(ask(&mut session, "m0,4"), "38630001");
+        assert_eq!(ask(&mut session, "m1fe,10"), "0000", "as much as there is");
+        assert_eq!(ask(&mut session, "m1ff,ffffffff"), "00");
+        for outside in ["m200,1", "mffffffff,1", "M1ff,2:0000", "Z0,200,4", "Z2,1ff,2"] {
+            assert_eq!(ask(&mut session, outside), OUTSIDE, "{outside}");
+        }
+        assert_eq!(ask(&mut session, "M1fe,2:abcd"), "OK");
+        assert_eq!(ask(&mut session, "m1fe,2"), "abcd");
+        assert_eq!(ask(&mut session, "Z9,0,4"), "", "there is no such stop");
+    }
+}
