@@ -151,9 +151,9 @@ uint64_t ppe42_run_inside(uint8_t *state, size_t state_len, uint8_t *memory, siz
 
 /* The same run, but it ends already with the first step that leaves IAR at a stop; that step is taken and counted. stops has a
  * byte for each word from address 0 on: where byte k is not 0, there is a stop at address 4k, and past the end of the list there
- * is none. The list may have any length and any bytes. A run that begins at a stop takes its first step all the same. State,
- * memory and answer are those of ppe42_run of as many steps; to go on, run again from what was left, with the rest of the event
- * list. */
+ * is none. The list may have any length and any bytes. A run that begins at a stop takes its first step all the same. The refusals
+ * are those of ppe42_run with this budget; accepted, state, memory and answer are those of ppe42_run of as many steps. To go on,
+ * run again from what was left, with the rest of the event list. */
 uint64_t ppe42_run_until(uint8_t *state, size_t state_len, uint8_t *memory, size_t memory_len, const uint8_t *events,
                          size_t events_len, const uint8_t *stops, size_t stops_len, uint32_t budget);
 

@@ -299,9 +299,10 @@ fn one_client_at_a_time() {
     let mut first = served(&server);
     let mut second = server.client();
     assert_eq!(second.answer(), None, "it is turned away");
-    assert_eq!(first.ask("m0,4"), "38630001");
+    assert_eq!((first.ask("m0,4").as_str(), first.ask("Z0,8,4").as_str()), ("38630001", "OK"));
+    assert_eq!(first.ask("c"), "T05", "its breakpoint stops the core");
     drop(first);
-    assert_eq!(served(&server).ask("m0,4"), "38630001");
+    assert_eq!(served(&server).ask("c"), "T07", "which is gone with it, and the trap halts the core");
 }
 
 /// What listens has the loopback address, as /proc/net/tcp writes it.

@@ -19,6 +19,13 @@ struct Part {
     held: u8,
 }
 
+impl Part {
+    fn level(byte: u8, from: u64, to: u64) -> Part {
+        let words = format!("hold {}", events::shown(byte));
+        Part { words, events: Events::steady(from, to, byte), from, to, held: byte }
+    }
+}
+
 impl Schedule {
     /// Events from step `from` on.
     pub fn add(&mut self, words: String, events: Events, from: u64) {
@@ -27,20 +34,19 @@ impl Schedule {
 
     /// A level from step `from` on.
     pub fn hold(&mut self, byte: u8, from: u64) {
-        let words = format!("hold {}", events::shown(byte));
-        let events = Events::steady(from, u64::MAX, byte);
-        self.parts.push(Part { words, events, from, to: u64::MAX, held: byte });
+        self.parts.push(Part::level(byte, from, u64::MAX));
     }
 
     /// Of the levels that are held, these no longer from step `at` on; which of them were.
     pub fn release(&mut self, byte: u8, at: u64) -> u8 {
         let held = |part: &Part| part.to > at && part.held & byte != 0;
-        let all = self.parts.iter().filter(|part| held(part)).fold(0, |all, part| all | part.held);
+        let released = self.parts.iter().filter(|part| held(part)).fold(0, |all, part| all | part.held & byte);
+        // what else a part holds goes on, or begins, as it would have
+        let others = self.parts.iter().filter(|part| held(part) && part.held & !byte != 0);
+        let others: Vec<Part> = others.map(|part| Part::level(part.held & !byte, part.from.max(at), part.to)).collect();
         self.end(at, held);
-        if all & !byte != 0 {
-            self.hold(all & !byte, at);
-        }
-        all & byte
+        self.parts.extend(others);
+        released
     }
 
     /// Nothing any more from step `at` on.
@@ -127,6 +133,10 @@ mod tests {
         assert_eq!(schedule.release(63, 3), 5, "both, from an earlier step on");
         assert_eq!(list(&schedule, 0, 6), [0, 0, 5]);
         assert_eq!(schedule.byte(2), 5);
+        schedule.clear(0);
+        schedule.hold(5, 4);
+        assert_eq!(schedule.release(1, 2), 1, "before it is held");
+        assert_eq!(list(&schedule, 0, 6), [0, 0, 0, 0, 4, 4], "the other begins where it would have");
         assert_eq!(schedule.byte(u64::MAX), 0);
     }
 }

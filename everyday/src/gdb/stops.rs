@@ -104,9 +104,10 @@ impl Stops {
     }
 
     fn mark(&mut self, stop: Stop) {
-        let set = [Kind::Software, Kind::Hardware].map(|kind| self.all.contains(&Stop { kind, ..stop }));
+        let is_here = |other: &Stop| other.kind.is_breakpoint() && other.address / 4 == stop.address / 4;
+        let set = self.all.iter().any(is_here);
         if let (true, Some(word)) = (stop.kind.is_breakpoint(), self.words.get_mut(stop.address as usize / 4)) {
-            *word = set.contains(&true).into();
+            *word = set.into();
         }
     }
 
@@ -160,6 +161,10 @@ mod tests {
             assert_eq!(stops.set(stop(Kind::Software, address, 4)), good, "{address}");
         }
         assert_eq!(stops.words(), Some(&[1, 0, 0, 0, 0, 0, 0, 1][..]));
+        for never_set in [stop(Kind::Software, 2, 4), stop(Kind::Software, 28, 2), stop(Kind::Hardware, 28, 4)] {
+            stops.unset(never_set);
+        }
+        assert!(stops.is_at(0) && stops.is_at(28), "what was not set takes nothing with it");
         stops.set(stop(Kind::Hardware, 0, 4));
         stops.unset(stop(Kind::Software, 0, 4));
         assert!(stops.is_at(0), "one of the other kind is left");
