@@ -35,59 +35,59 @@ mb_of_lem : (w : ℕ) {first low : ℕ} → bits_at w 26 26 ≡ first → bits_a
 mb_of_lem w a b = rw (a, b)
 
 pub record DParts (op rt ra imm : ℕ) (f : Fields) : Type 0 where
-  pub op-is : f.op ≡ op
-  pub rt-is : f.rt ≡ rt
-  pub ra-is : f.ra ≡ ra
-  pub imm-is : f.imm ≡ imm
+  pub op_is : f.op ≡ op
+  pub rt_is : f.rt ≡ rt
+  pub ra_is : f.ra ≡ ra
+  pub imm_is : f.imm ≡ imm
 
 pub d_parts : {op rt ra imm : ℕ} → op < 64 → (rt < 32) × (ra < 32) × (imm < 65536) → DParts op rt ra imm (fields_of (word_d op rt ra imm))
 unfolding fields_of
-d_parts hop h = record { op-is = omega arith; rt-is = omega arith; ra-is = omega arith; imm-is = omega arith }
+d_parts hop h = record { op_is = omega arith; rt_is = omega arith; ra_is = omega arith; imm_is = omega arith }
 
 pub record DDParts (op rt ra dd : ℕ) (f : Fields) : Type 0 where
-  pub op-is : f.op ≡ op
-  pub rt-is : f.rt ≡ rt
-  pub ra-is : f.ra ≡ ra
-  pub dd-is : f.dd ≡ dd
+  pub op_is : f.op ≡ op
+  pub rt_is : f.rt ≡ rt
+  pub ra_is : f.ra ≡ ra
+  pub dd_is : f.dd ≡ dd
 
 pub dd_parts : {op rt ra dd : ℕ} → op < 64 → (rt < 32) × (ra < 32) × (dd < 8192) → DDParts op rt ra dd (fields_of (word_dd op rt ra dd))
 unfolding fields_of
-dd_parts hop h = record { op-is = omega arith; rt-is = omega arith; ra-is = omega arith; dd-is = omega arith }
+dd_parts hop h = record { op_is = omega arith; rt_is = omega arith; ra_is = omega arith; dd_is = omega arith }
 
 -- the code of an XO form is the last nine bits of that of an X form
 pub record XParts (op rt ra rb x : ℕ) (rc : Bool) (f : Fields) : Type 0 where
-  pub op-is : f.op ≡ op
-  pub rt-is : f.rt ≡ rt
-  pub ra-is : f.ra ≡ ra
-  pub rb-is : f.rb ≡ rb
-  pub x-is : f.x ≡ x
-  pub xo-is : f.xo ≡ x % 512
-  pub spr-is : f.spr ≡ field_at 22 26 rb + field_at 27 31 ra
-  pub rc-is : f.rc ≡ rc
+  pub op_is : f.op ≡ op
+  pub rt_is : f.rt ≡ rt
+  pub ra_is : f.ra ≡ ra
+  pub rb_is : f.rb ≡ rb
+  pub x_is : f.x ≡ x
+  pub xo_is : f.xo ≡ x % 512
+  pub spr_is : f.spr ≡ field_at 22 26 rb + field_at 27 31 ra
+  pub rc_is : f.rc ≡ rc
 
 pub x_parts : {op rt ra rb x : ℕ} (rc : Bool) → op < 64 → x < 1024 → (rt < 32) × (ra < 32) × (rb < 32) → XParts op rt ra rb x rc (fields_of (word_x op rt ra rb x rc))
 unfolding fields_of
 x_parts {op} {rt} {ra} {rb} {x} rc hop hx h =
     let hrc = digit_lt rc in
     record {
-      op-is = omega arith;
-      rt-is = omega arith;
-      ra-is = omega arith;
-      rb-is = omega arith;
-      x-is = omega arith;
-      xo-is = omega arith;
-      spr-is = spr_of_lem (word_x op rt ra rb x rc) (omega arith) (omega arith);
-      rc-is = flag rc (word_x op rt ra rb x rc) 31 (omega arith);
+      op_is = omega arith;
+      rt_is = omega arith;
+      ra_is = omega arith;
+      rb_is = omega arith;
+      x_is = omega arith;
+      xo_is = omega arith;
+      spr_is = spr_of_lem (word_x op rt ra rb x rc) (omega arith) (omega arith);
+      rc_is = flag rc (word_x op rt ra rb x rc) 31 (omega arith);
     }
 
 pub record XOParts (rt ra rb : ℕ) (oe : Bool) (xo : ℕ) (rc : Bool) (f : Fields) : Type 0 where
-  pub op-is : f.op ≡ 31
-  pub rt-is : f.rt ≡ rt
-  pub ra-is : f.ra ≡ ra
-  pub rb-is : f.rb ≡ rb
-  pub oe-is : f.oe ≡ oe
-  pub xo-is : f.xo ≡ xo
-  pub rc-is : f.rc ≡ rc
+  pub op_is : f.op ≡ 31
+  pub rt_is : f.rt ≡ rt
+  pub ra_is : f.ra ≡ ra
+  pub rb_is : f.rb ≡ rb
+  pub oe_is : f.oe ≡ oe
+  pub xo_is : f.xo ≡ xo
+  pub rc_is : f.rc ≡ rc
 
 pub xo_parts : {rt ra rb xo : ℕ} (oe rc : Bool) → xo < 512 → (rt < 32) × (ra < 32) × (rb < 32) → XOParts rt ra rb oe xo rc (fields_of (word_xo rt ra rb oe xo rc))
 unfolding fields_of
@@ -95,68 +95,68 @@ xo_parts {rt} {ra} {rb} {xo} oe rc hxo h =
     let hoe = digit_lt oe in
     let hrc = digit_lt rc in
     record {
-      op-is = omega arith;
-      rt-is = omega arith;
-      ra-is = omega arith;
-      rb-is = omega arith;
-      oe-is = flag oe (word_xo rt ra rb oe xo rc) 21 (omega arith);
-      xo-is = omega arith;
-      rc-is = flag rc (word_xo rt ra rb oe xo rc) 31 (omega arith);
+      op_is = omega arith;
+      rt_is = omega arith;
+      ra_is = omega arith;
+      rb_is = omega arith;
+      oe_is = flag oe (word_xo rt ra rb oe xo rc) 21 (omega arith);
+      xo_is = omega arith;
+      rc_is = flag rc (word_xo rt ra rb oe xo rc) 31 (omega arith);
     }
 
 pub record XFXParts (rt x : ℕ) (f : Fields) : Type 0 where
-  pub op-is : f.op ≡ 31
-  pub rt-is : f.rt ≡ rt
-  pub x-is : f.x ≡ x
-  pub xo-is : f.xo ≡ x % 512
+  pub op_is : f.op ≡ 31
+  pub rt_is : f.rt ≡ rt
+  pub x_is : f.x ≡ x
+  pub xo_is : f.xo ≡ x % 512
 
 pub xfx_parts : {rt x : ℕ} (fxm : ℕ) → x < 1024 → rt < 32 → XFXParts rt x (fields_of (word_xfx rt fxm x))
 unfolding fields_of
-xfx_parts fxm hx hrt = record { op-is = omega arith; rt-is = omega arith; x-is = omega arith; xo-is = omega arith }
+xfx_parts fxm hx hrt = record { op_is = omega arith; rt_is = omega arith; x_is = omega arith; xo_is = omega arith }
 
 pub record EParts (e : Bool) (x : ℕ) (f : Fields) : Type 0 where
-  pub op-is : f.op ≡ 31
-  pub e-is : f.e ≡ e
-  pub x-is : f.x ≡ x
-  pub xo-is : f.xo ≡ x % 512
+  pub op_is : f.op ≡ 31
+  pub e_is : f.e ≡ e
+  pub x_is : f.x ≡ x
+  pub xo_is : f.xo ≡ x % 512
 
 pub e_parts : {x : ℕ} (e : Bool) → x < 1024 → EParts e x (fields_of (word_e e x))
 unfolding fields_of
 e_parts {x} e hx =
     let he = digit_lt e in
-    record { op-is = omega arith; e-is = flag e (word_e e x) 16 (omega arith); x-is = omega arith; xo-is = omega arith }
+    record { op_is = omega arith; e_is = flag e (word_e e x) 16 (omega arith); x_is = omega arith; xo_is = omega arith }
 
 pub record MParts (op rs ra rb mb me : ℕ) (rc : Bool) (f : Fields) : Type 0 where
-  pub op-is : f.op ≡ op
-  pub rt-is : f.rt ≡ rs
-  pub ra-is : f.ra ≡ ra
-  pub rb-is : f.rb ≡ rb
-  pub mb-is : f.mb ≡ mb
-  pub me-is : f.me ≡ me
-  pub rc-is : f.rc ≡ rc
+  pub op_is : f.op ≡ op
+  pub rt_is : f.rt ≡ rs
+  pub ra_is : f.ra ≡ ra
+  pub rb_is : f.rb ≡ rb
+  pub mb_is : f.mb ≡ mb
+  pub me_is : f.me ≡ me
+  pub rc_is : f.rc ≡ rc
 
 pub m_parts : {op rs ra rb mb me : ℕ} (rc : Bool) → op < 64 → (rs < 32) × (ra < 32) × (rb < 32) × (mb < 32) × (me < 32) → MParts op rs ra rb mb me rc (fields_of (word_m op rs ra rb mb me rc))
 unfolding fields_of
 m_parts {op} {rs} {ra} {rb} {mb} {me} rc hop h =
     let hrc = digit_lt rc in
     record {
-      op-is = omega arith;
-      rt-is = omega arith;
-      ra-is = omega arith;
-      rb-is = omega arith;
-      mb-is = omega arith;
-      me-is = omega arith;
-      rc-is = flag rc (word_m op rs ra rb mb me rc) 31 (omega arith);
+      op_is = omega arith;
+      rt_is = omega arith;
+      ra_is = omega arith;
+      rb_is = omega arith;
+      mb_is = omega arith;
+      me_is = omega arith;
+      rc_is = flag rc (word_m op rs ra rb mb me rc) 31 (omega arith);
     }
 
 pub record MDParts (ds da sh mb mb5 md sh5 : ℕ) (rc : Bool) (f : Fields) : Type 0 where
-  pub op-is : f.op ≡ 30
-  pub rt-is : f.rt ≡ ds
-  pub ra-is : f.ra ≡ da
-  pub sh-is : f.sh ≡ field_at 26 26 sh5 + field_at 27 31 sh
-  pub mb-is : f.mb6 ≡ field_at 26 26 mb5 + field_at 27 31 mb
-  pub md-is : f.md ≡ md
-  pub rc-is : f.rc ≡ rc
+  pub op_is : f.op ≡ 30
+  pub rt_is : f.rt ≡ ds
+  pub ra_is : f.ra ≡ da
+  pub sh_is : f.sh ≡ field_at 26 26 sh5 + field_at 27 31 sh
+  pub mb_is : f.mb6 ≡ field_at 26 26 mb5 + field_at 27 31 mb
+  pub md_is : f.md ≡ md
+  pub rc_is : f.rc ≡ rc
 
 pub md_parts : {ds da sh mb mb5 md sh5 : ℕ} (rc : Bool) → md < 8 → (ds < 32) × (da < 32) × (sh < 32) × (mb < 32) × (mb5 < 2) × (sh5 < 2)
     → MDParts ds da sh mb mb5 md sh5 rc (fields_of (word_md ds da sh mb mb5 md sh5 rc))
@@ -165,22 +165,22 @@ md_parts {ds} {da} {sh} {mb} {mb5} {md} {sh5} rc hmd h =
     let hrc = digit_lt rc in
     let w = word_md ds da sh mb mb5 md sh5 rc in
     record {
-      op-is = omega arith;
-      rt-is = omega arith;
-      ra-is = omega arith;
-      sh-is = sh_of_lem w (omega arith) (omega arith);
-      mb-is = mb_of_lem w (omega arith) (omega arith);
-      md-is = omega arith;
-      rc-is = flag rc w 31 (omega arith);
+      op_is = omega arith;
+      rt_is = omega arith;
+      ra_is = omega arith;
+      sh_is = sh_of_lem w (omega arith) (omega arith);
+      mb_is = mb_of_lem w (omega arith) (omega arith);
+      md_is = omega arith;
+      rc_is = flag rc w 31 (omega arith);
     }
 
 pub record BParts (bo bi bd : ℕ) (aa lk : Bool) (f : Fields) : Type 0 where
-  pub op-is : f.op ≡ 16
-  pub rt-is : f.rt ≡ bo
-  pub ra-is : f.ra ≡ bi
-  pub bd-is : f.bd ≡ bd
-  pub aa-is : f.aa ≡ aa
-  pub rc-is : f.rc ≡ lk
+  pub op_is : f.op ≡ 16
+  pub rt_is : f.rt ≡ bo
+  pub ra_is : f.ra ≡ bi
+  pub bd_is : f.bd ≡ bd
+  pub aa_is : f.aa ≡ aa
+  pub rc_is : f.rc ≡ lk
 
 pub b_parts : {bo bi bd : ℕ} (aa lk : Bool) → (bo < 32) × (bi < 32) × (bd < 16384) → BParts bo bi bd aa lk (fields_of (word_b bo bi bd aa lk))
 unfolding fields_of
@@ -188,26 +188,26 @@ b_parts {bo} {bi} {bd} aa lk h =
     let haa = digit_lt aa in
     let hlk = digit_lt lk in
     record {
-      op-is = omega arith;
-      rt-is = omega arith;
-      ra-is = omega arith;
-      bd-is = omega arith;
-      aa-is = flag aa (word_b bo bi bd aa lk) 30 (omega arith);
-      rc-is = flag lk (word_b bo bi bd aa lk) 31 (omega arith);
+      op_is = omega arith;
+      rt_is = omega arith;
+      ra_is = omega arith;
+      bd_is = omega arith;
+      aa_is = flag aa (word_b bo bi bd aa lk) 30 (omega arith);
+      rc_is = flag lk (word_b bo bi bd aa lk) 31 (omega arith);
     }
 
 pub record IParts (li : ℕ) (aa lk : Bool) (f : Fields) : Type 0 where
-  pub op-is : f.op ≡ 18
-  pub li-is : f.li ≡ li
-  pub aa-is : f.aa ≡ aa
-  pub rc-is : f.rc ≡ lk
+  pub op_is : f.op ≡ 18
+  pub li_is : f.li ≡ li
+  pub aa_is : f.aa ≡ aa
+  pub rc_is : f.rc ≡ lk
 
 pub i_parts : {li : ℕ} (aa lk : Bool) → li < 16777216 → IParts li aa lk (fields_of (word_i li aa lk))
 unfolding fields_of
 i_parts {li} aa lk hli =
     let haa = digit_lt aa in
     let hlk = digit_lt lk in
-    record { op-is = omega arith; li-is = omega arith; aa-is = flag aa (word_i li aa lk) 30 (omega arith); rc-is = flag lk (word_i li aa lk) 31 (omega arith) }
+    record { op_is = omega arith; li_is = omega arith; aa_is = flag aa (word_i li aa lk) 30 (omega arith); rc_is = flag lk (word_i li aa lk) 31 (omega arith) }
 
 -- a word is made of its own parts, in each layout that names every bit: from the left, a part and what stands to the right of it
 part : (w n k : ℕ) → w / 2 ^ k % 2 ^ n % 2 ^ n * 2 ^ k + w % 2 ^ k ≡ w % 2 ^ (n + k)

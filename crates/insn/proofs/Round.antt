@@ -143,62 +143,62 @@ by_d : {op rt ra imm : ℕ} {at : Fields → Instr} {i : Instr} → Primary op a
 by_d {op} {rt} {ra} {imm} hit h same =
     let f = fields_of (word_d op rt ra imm) in
     let p : DParts op rt ra imm f = d_parts hit.1 h in
-    ap (λ (n : ℕ). primary n f) p.op-is ∙ hit.0 f ∙ ap Decoded.Insn (same f p)
+    ap (λ (n : ℕ). primary n f) p.op_is ∙ hit.0 f ∙ ap Decoded.Insn (same f p)
 
 by_x : {op rt ra rb x : ℕ} {table : ℕ → Fields → Decoded} {at : Fields → Instr} {i : Instr} → Leads op table → (rc : Bool) → Extended table x at → (rt < 32) × (ra < 32) × (rb < 32) → Makes (XParts op rt ra rb x rc) at i → guess_of (fields_of (word_x op rt ra rb x rc)) ≡ Decoded.Insn i
 by_x {op} {rt} {ra} {rb} {x} leads rc hit h same =
     let f = fields_of (word_x op rt ra rb x rc) in
     let p : XParts op rt ra rb x rc f = x_parts rc leads.0 hit.1 h in
-    leads.1 f x p.op-is p.x-is p.xo-is ∙ hit.0 f ∙ ap Decoded.Insn (same f p)
+    leads.1 f x p.op_is p.x_is p.xo_is ∙ hit.0 f ∙ ap Decoded.Insn (same f p)
 
 by_xo : {rt ra rb xo : ℕ} {at : Fields → Instr} {i : Instr} (oe rc : Bool) → XO31 xo at → (rt < 32) × (ra < 32) × (rb < 32) → Makes (XOParts rt ra rb oe xo rc) at i → guess_of (fields_of (word_xo rt ra rb oe xo rc)) ≡ Decoded.Insn i
 by_xo {rt} {ra} {rb} {xo} oe rc hit h same =
     let f = fields_of (word_xo rt ra rb oe xo rc) in
     let p : XOParts rt ra rb oe xo rc f = xo_parts oe rc hit.1 h in
-    to_31 f xo p.op-is p.xo-is ∙ hit.0 f.x f ∙ ap Decoded.Insn (same f p)
+    to_31 f xo p.op_is p.xo_is ∙ hit.0 f.x f ∙ ap Decoded.Insn (same f p)
 
 by_xfx : {rt x : ℕ} {at : Fields → Instr} {i : Instr} (fxm : ℕ) → X31 x at → rt < 32 → Makes (XFXParts rt x) at i → guess_of (fields_of (word_xfx rt fxm x)) ≡ Decoded.Insn i
 by_xfx {rt} {x} fxm hit h same =
     let f = fields_of (word_xfx rt fxm x) in
     let p : XFXParts rt x f = xfx_parts fxm hit.1 h in
-    of_31.1 f x p.op-is p.x-is p.xo-is ∙ hit.0 f ∙ ap Decoded.Insn (same f p)
+    of_31.1 f x p.op_is p.x_is p.xo_is ∙ hit.0 f ∙ ap Decoded.Insn (same f p)
 
 by_e : {x : ℕ} {at : Fields → Instr} {i : Instr} (e : Bool) → X31 x at → Makes (EParts e x) at i → guess_of (fields_of (word_e e x)) ≡ Decoded.Insn i
 by_e {x} e hit same =
     let f = fields_of (word_e e x) in
     let p : EParts e x f = e_parts e hit.1 in
-    of_31.1 f x p.op-is p.x-is p.xo-is ∙ hit.0 f ∙ ap Decoded.Insn (same f p)
+    of_31.1 f x p.op_is p.x_is p.xo_is ∙ hit.0 f ∙ ap Decoded.Insn (same f p)
 
 by_dd : {op rt ra dd : ℕ} {at : Fields → Instr} {i : Instr} → Primary op at → (rt < 32) × (ra < 32) × (dd < 8192) → Makes (DDParts op rt ra dd) at i → guess_of (fields_of (word_dd op rt ra dd)) ≡ Decoded.Insn i
 by_dd {op} {rt} {ra} {dd} hit h same =
     let f = fields_of (word_dd op rt ra dd) in
     let p : DDParts op rt ra dd f = dd_parts hit.1 h in
-    ap (λ (n : ℕ). primary n f) p.op-is ∙ hit.0 f ∙ ap Decoded.Insn (same f p)
+    ap (λ (n : ℕ). primary n f) p.op_is ∙ hit.0 f ∙ ap Decoded.Insn (same f p)
 
 by_m : {op rs ra rb mb me : ℕ} {at : Fields → Instr} {i : Instr} (rc : Bool) → Primary op at → (rs < 32) × (ra < 32) × (rb < 32) × (mb < 32) × (me < 32) → Makes (MParts op rs ra rb mb me rc) at i → guess_of (fields_of (word_m op rs ra rb mb me rc)) ≡ Decoded.Insn i
 by_m {op} {rs} {ra} {rb} {mb} {me} rc hit h same =
     let f = fields_of (word_m op rs ra rb mb me rc) in
     let p : MParts op rs ra rb mb me rc f = m_parts rc hit.1 h in
-    ap (λ (n : ℕ). primary n f) p.op-is ∙ hit.0 f ∙ ap Decoded.Insn (same f p)
+    ap (λ (n : ℕ). primary n f) p.op_is ∙ hit.0 f ∙ ap Decoded.Insn (same f p)
 
 by_md : {ds da sh mb mb5 sh5 : ℕ} (op : RotateDoubleOp) {at : Fields → Instr} {i : Instr} (rc : Bool) → Reads (opcode30 (rotate_double_code op)) at × (rotate_double_code op < 8) → (ds < 32) × (da < 32) × (sh < 32) × (mb < 32) × (mb5 < 2) × (sh5 < 2)
     → Makes (MDParts ds da sh mb mb5 (rotate_double_code op) sh5 rc) at i → guess_of (fields_of (word_md ds da sh mb mb5 (rotate_double_code op) sh5 rc)) ≡ Decoded.Insn i
 by_md {ds} {da} {sh} {mb} {mb5} {sh5} op rc hit h same =
     let f = fields_of (word_md ds da sh mb mb5 (rotate_double_code op) sh5 rc) in
     let p : MDParts ds da sh mb mb5 (rotate_double_code op) sh5 rc f = md_parts rc hit.1 h in
-    to_30 f p.op-is ∙ ap (λ (n : ℕ). opcode30 n f) p.md-is ∙ hit.0 f ∙ ap Decoded.Insn (same f p)
+    to_30 f p.op_is ∙ ap (λ (n : ℕ). opcode30 n f) p.md_is ∙ hit.0 f ∙ ap Decoded.Insn (same f p)
 
 by_b : {bo bi bd : ℕ} {at : Fields → Instr} {i : Instr} (aa lk : Bool) → Primary 16 at → (bo < 32) × (bi < 32) × (bd < 16384) → Makes (BParts bo bi bd aa lk) at i → guess_of (fields_of (word_b bo bi bd aa lk)) ≡ Decoded.Insn i
 by_b {bo} {bi} {bd} aa lk hit h same =
     let f = fields_of (word_b bo bi bd aa lk) in
     let p : BParts bo bi bd aa lk f = b_parts aa lk h in
-    ap (λ (n : ℕ). primary n f) p.op-is ∙ hit.0 f ∙ ap Decoded.Insn (same f p)
+    ap (λ (n : ℕ). primary n f) p.op_is ∙ hit.0 f ∙ ap Decoded.Insn (same f p)
 
 by_i : {li : ℕ} {at : Fields → Instr} {i : Instr} (aa lk : Bool) → Primary 18 at → li < 16777216 → Makes (IParts li aa lk) at i → guess_of (fields_of (word_i li aa lk)) ≡ Decoded.Insn i
 by_i {li} aa lk hit h same =
     let f = fields_of (word_i li aa lk) in
     let p : IParts li aa lk f = i_parts aa lk h in
-    ap (λ (n : ℕ). primary n f) p.op-is ∙ hit.0 f ∙ ap Decoded.Insn (same f p)
+    ap (λ (n : ℕ). primary n f) p.op_is ∙ hit.0 f ∙ ap Decoded.Insn (same f p)
 
 -- the fields of a tw
 trap_lt : (to ra rb : ℕ) (tg : Bool) → (mark_form to ra rb tg || trap_form to ra rb) ≡ true → (to < 32) × (ra < 32) × (rb < 32)
@@ -216,91 +216,91 @@ guess_written : (i : Instr) → valid_of i ≡ true → guess_of (fields_of (wor
 guess_written (Instr.Arithmetic (Arithmetic.Immediate op rt ra si)) v =
     let h = and_true (fits 16 si) (two_regs rt ra) v in
     let r = two rt ra h.1 in
-    by_d (hit_arith_imm op) (omega facts) (λ f p. rw (p.rt-is, p.ra-is, p.imm-is))
-guess_written (Instr.Arithmetic (Arithmetic.Register op rt ra rb oe rc)) v = by_xo oe rc (hit_arith op) (three rt ra rb v) (λ f p. rw (p.rt-is, p.ra-is, p.rb-is, p.oe-is, p.rc-is))
+    by_d (hit_arith_imm op) (omega facts) (λ f p. rw (p.rt_is, p.ra_is, p.imm_is))
+guess_written (Instr.Arithmetic (Arithmetic.Register op rt ra rb oe rc)) v = by_xo oe rc (hit_arith op) (three rt ra rb v) (λ f p. rw (p.rt_is, p.ra_is, p.rb_is, p.oe_is, p.rc_is))
 guess_written (Instr.Arithmetic (Arithmetic.One op rt ra oe rc)) v =
     let r = two rt ra v in
-    by_xo {rb = 0} oe rc (hit_arith_one op) (omega arith) (λ f p. rw (p.rt-is, p.ra-is, p.oe-is, p.rc-is))
-guess_written (Instr.Arithmetic (Arithmetic.Multiply sign rt ra rb rc)) v = by_x of_4 rc (hit_multiply sign) (three rt ra rb v) (λ f p. rw (p.rt-is, p.ra-is, p.rb-is, p.rc-is))
+    by_xo {rb = 0} oe rc (hit_arith_one op) (omega arith) (λ f p. rw (p.rt_is, p.ra_is, p.oe_is, p.rc_is))
+guess_written (Instr.Arithmetic (Arithmetic.Multiply sign rt ra rb rc)) v = by_x of_4 rc (hit_multiply sign) (three rt ra rb v) (λ f p. rw (p.rt_is, p.ra_is, p.rb_is, p.rc_is))
 guess_written (Instr.Arithmetic (Arithmetic.MultiplyImm rt ra si)) v =
     let h = and_true (fits 16 si) (two_regs rt ra) v in
     let r = two rt ra h.1 in
-    by_d hit_multiply_imm (omega facts) (λ f p. rw (p.rt-is, p.ra-is, p.imm-is))
-guess_written (Instr.Arithmetic (Arithmetic.MultiplyLow rt ra rb oe rc)) v = by_xo oe rc hit_multiply_low (three rt ra rb v) (λ f p. rw (p.rt-is, p.ra-is, p.rb-is, p.oe-is, p.rc-is))
+    by_d hit_multiply_imm (omega facts) (λ f p. rw (p.rt_is, p.ra_is, p.imm_is))
+guess_written (Instr.Arithmetic (Arithmetic.MultiplyLow rt ra rb oe rc)) v = by_xo oe rc hit_multiply_low (three rt ra rb v) (λ f p. rw (p.rt_is, p.ra_is, p.rb_is, p.oe_is, p.rc_is))
 guess_written (Instr.Logical (Logical.Immediate op rs ra ui)) v =
     let h = and_true (fits 16 ui) (two_regs rs ra) v in
     let r = two rs ra h.1 in
-    by_d (hit_logic_imm op) (omega facts) (λ f p. rw (p.rt-is, p.ra-is, p.imm-is))
-guess_written (Instr.Logical (Logical.Register op rs ra rb rc)) v = by_x of_31 rc (hit_logic op) (three rs ra rb v) (λ f p. rw (p.rt-is, p.ra-is, p.rb-is, p.rc-is))
+    by_d (hit_logic_imm op) (omega facts) (λ f p. rw (p.rt_is, p.ra_is, p.imm_is))
+guess_written (Instr.Logical (Logical.Register op rs ra rb rc)) v = by_x of_31 rc (hit_logic op) (three rs ra rb v) (λ f p. rw (p.rt_is, p.ra_is, p.rb_is, p.rc_is))
 guess_written (Instr.Logical (Logical.One op rs ra rc)) v =
     let r = two rs ra v in
-    by_x {rb = 0} of_31 rc (hit_logic_one op) (omega arith) (λ f p. rw (p.rt-is, p.ra-is, p.rc-is))
+    by_x {rb = 0} of_31 rc (hit_logic_one op) (omega arith) (λ f p. rw (p.rt_is, p.ra_is, p.rc_is))
 guess_written (Instr.Compare (Compare.Immediate sign ra imm)) v =
     let h = and_true (fits 16 imm) (reg_of ra) v in
-    by_d {rt = 0} (hit_compare_imm sign) (omega facts) (λ f p. rw (p.ra-is, p.imm-is))
+    by_d {rt = 0} (hit_compare_imm sign) (omega facts) (λ f p. rw (p.ra_is, p.imm_is))
 guess_written (Instr.Compare (Compare.Register sign ra rb)) v =
     let r = two ra rb v in
-    by_x {rt = 0} of_31 false (hit_compare sign) (omega arith) (λ f p. rw (p.ra-is, p.rb-is))
+    by_x {rt = 0} of_31 false (hit_compare sign) (omega arith) (λ f p. rw (p.ra_is, p.rb_is))
 guess_written (Instr.Rotate (Rotate.Immediate op rs ra sh mb me rc)) v =
     let h = ands (reg_of rs) (reg_of ra ∷ fits 5 sh ∷ fits 5 mb ∷ fits 5 me ∷ []) v in
-    by_m rc (hit_rotate_imm op) (omega facts) (λ f p. rw (p.rt-is, p.ra-is, p.rb-is, p.mb-is, p.me-is, p.rc-is))
+    by_m rc (hit_rotate_imm op) (omega facts) (λ f p. rw (p.rt_is, p.ra_is, p.rb_is, p.mb_is, p.me_is, p.rc_is))
 guess_written (Instr.Rotate (Rotate.Register rs ra rb mb me rc)) v =
     let h = ands (reg_of rs) (reg_of ra ∷ reg_of rb ∷ fits 5 mb ∷ fits 5 me ∷ []) v in
-    by_m rc hit_rotate (omega facts) (λ f p. rw (p.rt-is, p.ra-is, p.rb-is, p.mb-is, p.me-is, p.rc-is))
-guess_written (Instr.Rotate (Rotate.Shift op rs ra rb rc)) v = by_x of_31 rc (hit_shift op) (three rs ra rb v) (λ f p. rw (p.rt-is, p.ra-is, p.rb-is, p.rc-is))
+    by_m rc hit_rotate (omega facts) (λ f p. rw (p.rt_is, p.ra_is, p.rb_is, p.mb_is, p.me_is, p.rc_is))
+guess_written (Instr.Rotate (Rotate.Shift op rs ra rb rc)) v = by_x of_31 rc (hit_shift op) (three rs ra rb v) (λ f p. rw (p.rt_is, p.ra_is, p.rb_is, p.rc_is))
 guess_written (Instr.Rotate (Rotate.Srawi rs ra sh rc)) v =
     let h = ands (reg_of rs) (reg_of ra ∷ fits 5 sh ∷ []) v in
-    by_x of_31 rc hit_srawi (omega facts) (λ f p. rw (p.rt-is, p.ra-is, p.rb-is, p.rc-is))
+    by_x of_31 rc hit_srawi (omega facts) (λ f p. rw (p.rt_is, p.ra_is, p.rb_is, p.rc_is))
 guess_written (Instr.Rotate (Rotate.Double op ds da sh mb rc)) v =
     let h = ands (reg_of ds) (reg_of (paired_with ds) ∷ is_vdr da ∷ fits 6 sh ∷ fits 6 mb ∷ []) v in
     let r = two da (paired_with da) h.0.0.1 in
     let e : field_at 26 26 (bits_at sh 26 26) + field_at 27 31 (bits_at sh 27 31) ≡ sh = omega facts in
     let g : field_at 26 26 (bits_at mb 26 26) + field_at 27 31 (bits_at mb 27 31) ≡ mb = omega facts in
-    by_md op rc (hit_rotate_double op) (omega facts) (λ f p. rw (p.rt-is, p.ra-is, p.sh-is, p.mb-is, p.rc-is, e, g))
+    by_md op rc (hit_rotate_double op) (omega facts) (λ f p. rw (p.rt_is, p.ra_is, p.sh_is, p.mb_is, p.rc_is, e, g))
 guess_written (Instr.LoadStore (LoadStore.Load width update rt ra d)) v =
     let h = and_true (fits 16 d) (two_regs rt ra && load_form update rt ra) v in
     let r = ands (reg_of rt) (reg_of ra ∷ load_form update rt ra ∷ []) h.1 in
-    by_d (hit_load width update) (omega facts) (λ f p. rw (p.rt-is, p.ra-is, p.imm-is))
-guess_written (Instr.LoadStore (LoadStore.LoadIndexed width rt ra rb)) v = by_x of_31 false (hit_load_indexed width) (three rt ra rb v) (λ f p. rw (p.rt-is, p.ra-is, p.rb-is))
+    by_d (hit_load width update) (omega facts) (λ f p. rw (p.rt_is, p.ra_is, p.imm_is))
+guess_written (Instr.LoadStore (LoadStore.LoadIndexed width rt ra rb)) v = by_x of_31 false (hit_load_indexed width) (three rt ra rb v) (λ f p. rw (p.rt_is, p.ra_is, p.rb_is))
 guess_written (Instr.LoadStore (LoadStore.Store width update rs ra d)) v =
     let h = and_true (fits 16 d) (two_regs rs ra && store_form update ra) v in
     let r = ands (reg_of rs) (reg_of ra ∷ store_form update ra ∷ []) h.1 in
-    by_d (hit_store width update) (omega facts) (λ f p. rw (p.rt-is, p.ra-is, p.imm-is))
-guess_written (Instr.LoadStore (LoadStore.StoreIndexed width rs ra rb)) v = by_x of_31 false (hit_store_indexed width) (three rs ra rb v) (λ f p. rw (p.rt-is, p.ra-is, p.rb-is))
+    by_d (hit_store width update) (omega facts) (λ f p. rw (p.rt_is, p.ra_is, p.imm_is))
+guess_written (Instr.LoadStore (LoadStore.StoreIndexed width rs ra rb)) v = by_x of_31 false (hit_store_indexed width) (three rs ra rb v) (λ f p. rw (p.rt_is, p.ra_is, p.rb_is))
 guess_written (Instr.LoadStore (LoadStore.LoadDouble update dt ra d)) v =
     let h = and_true (fits 16 d) (is_vdr dt && reg_of ra && load_double_form update dt ra) v in
     let r = ands (reg_of dt) (reg_of (paired_with dt) ∷ reg_of ra ∷ load_double_form update dt ra ∷ []) h.1 in
-    by_d (hit_load_double update) (omega facts) (λ f p. rw (p.rt-is, p.ra-is, p.imm-is))
+    by_d (hit_load_double update) (omega facts) (λ f p. rw (p.rt_is, p.ra_is, p.imm_is))
 guess_written (Instr.LoadStore (LoadStore.StoreDouble update ds ra d)) v =
     let h = and_true (fits 16 d) (is_vdr ds && reg_of ra && store_form update ra) v in
     let r = ands (reg_of ds) (reg_of (paired_with ds) ∷ reg_of ra ∷ store_form update ra ∷ []) h.1 in
-    by_d (hit_store_double update) (omega facts) (λ f p. rw (p.rt-is, p.ra-is, p.imm-is))
+    by_d (hit_store_double update) (omega facts) (λ f p. rw (p.rt_is, p.ra_is, p.imm_is))
 guess_written (Instr.Stack dd op rt ra) v =
     let h = and_true (fits 13 dd) (two_regs rt ra && stack_form rt ra && is_dd op dd) v in
     let r = ands (reg_of rt) (reg_of ra ∷ stack_form rt ra ∷ is_dd op dd ∷ []) h.1 in
-    by_dd (hit_stack op) (omega facts) (λ f p. rw (p.rt-is, p.ra-is, p.dd-is))
-guess_written (Instr.Branch (Branch.Always aa lk li)) v = by_i aa lk hit_branch (omega facts) (λ f p. rw (p.aa-is, p.rc-is, p.li-is))
+    by_dd (hit_stack op) (omega facts) (λ f p. rw (p.rt_is, p.ra_is, p.dd_is))
+guess_written (Instr.Branch (Branch.Always aa lk li)) v = by_i aa lk hit_branch (omega facts) (λ f p. rw (p.aa_is, p.rc_is, p.li_is))
 guess_written (Instr.Branch (Branch.Conditional bo bi bd aa lk)) v =
     let h = ands (fits 5 bo) (fits 2 bi ∷ fits 14 bd ∷ []) v in
-    by_b aa lk hit_branch_if (omega facts) (λ f p. rw (p.rt-is, p.ra-is, p.bd-is, p.aa-is, p.rc-is))
+    by_b aa lk hit_branch_if (omega facts) (λ f p. rw (p.rt_is, p.ra_is, p.bd_is, p.aa_is, p.rc_is))
 guess_written (Instr.Branch (Branch.Register op bo bi bh lk)) v =
     let h = ands (fits 5 bo) (fits 2 bi ∷ fits 2 bh ∷ branch_form op bo ∷ []) v in
-    by_x of_19 lk (hit_branch_to op) (omega facts) (λ f p. rw (p.rt-is, p.ra-is, p.rb-is, p.rc-is))
+    by_x of_19 lk (hit_branch_to op) (omega facts) (λ f p. rw (p.rt_is, p.ra_is, p.rb_is, p.rc_is))
 guess_written (Instr.Trap to ra rb tg) v =
     let h = trap_lt to ra rb tg v in
-    by_x of_31 tg hit_trap (omega facts) (λ f p. rw (p.rt-is, p.ra-is, p.rb-is, p.rc-is))
+    by_x of_31 tg hit_trap (omega facts) (λ f p. rw (p.rt_is, p.ra_is, p.rb_is, p.rc_is))
 guess_written (Instr.System (System.Spr op rt spr)) v =
     let h = and_true (reg_of rt) (spr_ok op spr) v in
     let e : field_at 22 26 (bits_at spr 22 26) + field_at 27 31 (bits_at spr 27 31) ≡ spr = omega facts in
-    by_x of_31 false (hit_spr op) (omega facts) (λ f p. rw (p.rt-is, p.spr-is, e))
-guess_written (Instr.System (System.Move op rt)) v = by_xfx (move_fxm op) (hit_move op) (reg_lt rt v) (λ f p. rw p.rt-is)
-guess_written (Instr.System (System.Wrteei e)) v = by_e e hit_wrteei (λ f p. rw p.e-is)
+    by_x of_31 false (hit_spr op) (omega facts) (λ f p. rw (p.rt_is, p.spr_is, e))
+guess_written (Instr.System (System.Move op rt)) v = by_xfx (move_fxm op) (hit_move op) (reg_lt rt v) (λ f p. rw p.rt_is)
+guess_written (Instr.System (System.Wrteei e)) v = by_e e hit_wrteei (λ f p. rw p.e_is)
 guess_written (Instr.System System.Rfi) v = by_x {rt = 0} {ra = 0} {rb = 0} of_19 false hit_rfi (omega arith) (λ f p. refl)
 guess_written (Instr.System System.Sync) v = by_x {rt = 0} {ra = 0} {rb = 0} of_31 false hit_sync (omega arith) (λ f p. refl)
 guess_written (Instr.Cache op hint ra rb) v =
     let h = and_true (hint_ok op hint) (two_regs ra rb) v in
     let r = two ra rb h.1 in
-    by_x of_31 false (hit_cache op) (omega facts) (λ f p. rw (p.rt-is, p.ra-is, p.rb-is))
+    by_x of_31 false (hit_cache op) (omega facts) (λ f p. rw (p.rt_is, p.ra_is, p.rb_is))
 
 pub written_read : (i : Instr) → valid_of i ≡ true → decode_of (word_of i) ≡ Decoded.Insn i
 unfolding decode_of

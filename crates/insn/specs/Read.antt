@@ -1,5 +1,5 @@
 -- What a word reads as on a 42X, and on either core: the instruction that its opcodes and parts suggest, if that is valid and is written as this very word.
--- So only `valid_of` and `word_of` have to be believed: a slip in a table below would refute `Written-Read`.
+-- So only `valid_of` and `word_of` have to be believed: a slip in a table below would refute `written_read`.
 use Rattle.std.specs.Prelude.{ℕ, Bool, true, false, cond, ◌&&◌, List, [], ◌∷◌, ◌++◌, eqb}
 use Rattle.insn.specs.Fields.{fields_of}
 use Rattle.insn.specs.Codes.{arith_imm_code, arith_code, arith_one_code, multiply_code, logic_imm_code, logic_code, logic_one_code, compare_imm_code, compare_code, rotate_code, shift_code, load_code, store_code, load_indexed_code, store_indexed_code, load_double_code, store_double_code, stack_code, rotate_double_code, branch_code, spr_code, move_code, cache_code}

@@ -5,7 +5,7 @@ ghost use Rattle.insn.specs.Fields.{fields_of, spr_of, sh_of, mb_of, word_d, wor
 use word::bits::*;
 
 // A word and each of its parts that some form names.
-#[derive(Drop)]
+#[derive(Clone, Copy)]
 pub struct Fields {
     pub word: u32,
     pub op: u8,

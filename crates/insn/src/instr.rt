@@ -3,7 +3,7 @@
 
 use word::width::Width;
 
-#[derive(Drop)]
+#[derive(Clone, Copy)]
 pub enum Instr {
     Arithmetic(Arithmetic),
     Logical(Logical),
@@ -35,20 +35,20 @@ pub enum Instr {
 }
 
 // What a word reads as.
-#[derive(Drop)]
+#[derive(Clone, Copy)]
 pub enum Decoded {
     Insn(Instr),
     Illegal,
 }
 
 // What an instruction is written as: refusal 0 and its word, or refusal 6 and word 0.
-#[derive(Drop)]
+#[derive(Clone, Copy)]
 pub struct Written {
     pub refusal: u8,
     pub word: u32,
 }
 
-#[derive(Drop)]
+#[derive(Clone, Copy)]
 pub enum Arithmetic {
     Immediate {
         op: ArithImmOp,
@@ -95,7 +95,7 @@ pub enum Arithmetic {
     },
 }
 
-#[derive(Drop)]
+#[derive(Clone, Copy)]
 pub enum Logical {
     Immediate {
         op: LogicImmOp,
@@ -118,7 +118,7 @@ pub enum Logical {
     },
 }
 
-#[derive(Drop)]
+#[derive(Clone, Copy)]
 pub enum Compare {
     // cmpwi and cmplwi
     Immediate { sign: Sign, ra: u8, imm: u16 },
@@ -126,7 +126,7 @@ pub enum Compare {
     Register { sign: Sign, ra: u8, rb: u8 },
 }
 
-#[derive(Drop)]
+#[derive(Clone, Copy)]
 pub enum Rotate {
     // sh has two bytes: with one this would be eight bytes, which are copied as one number and taken apart again
     Immediate {
@@ -171,7 +171,7 @@ pub enum Rotate {
     },
 }
 
-#[derive(Drop)]
+#[derive(Clone, Copy)]
 pub enum LoadStore {
     Load {
         width: Width,
@@ -215,7 +215,7 @@ pub enum LoadStore {
     },
 }
 
-#[derive(Drop)]
+#[derive(Clone, Copy)]
 pub enum Branch {
     // b, bl, ba and bla
     Always {
@@ -240,7 +240,7 @@ pub enum Branch {
     },
 }
 
-#[derive(Drop)]
+#[derive(Clone, Copy)]
 pub enum System {
     // spr is SPRN, the number itself
     Spr { op: SprOp, rt: u8, spr: u16 },
@@ -251,7 +251,7 @@ pub enum System {
     Sync,
 }
 
-#[derive(Drop)]
+#[derive(Clone, Copy)]
 pub enum ArithImmOp {
     Addi,
     Addis,
@@ -260,7 +260,7 @@ pub enum ArithImmOp {
     Subfic,
 }
 
-#[derive(Drop)]
+#[derive(Clone, Copy)]
 pub enum ArithOp {
     Add,
     Addc,
@@ -270,7 +270,7 @@ pub enum ArithOp {
     Subfe,
 }
 
-#[derive(Drop)]
+#[derive(Clone, Copy)]
 pub enum ArithOneOp {
     Addme,
     Addze,
@@ -279,7 +279,7 @@ pub enum ArithOneOp {
     Neg,
 }
 
-#[derive(Drop)]
+#[derive(Clone, Copy)]
 pub enum LogicImmOp {
     AndiDot,
     AndisDot,
@@ -289,7 +289,7 @@ pub enum LogicImmOp {
     Xoris,
 }
 
-#[derive(Drop)]
+#[derive(Clone, Copy)]
 pub enum LogicOp {
     And,
     Andc,
@@ -301,52 +301,52 @@ pub enum LogicOp {
     Xor,
 }
 
-#[derive(Drop)]
+#[derive(Clone, Copy)]
 pub enum LogicOneOp {
     Extsb,
     Extsh,
     Cntlzw,
 }
 
-#[derive(Drop)]
+#[derive(Clone, Copy)]
 pub enum RotateOp {
     Rlwimi,
     Rlwinm,
 }
 
-#[derive(Drop)]
+#[derive(Clone, Copy)]
 pub enum RotateDoubleOp {
     Rldicl,
     Rldicr,
     Rldimi,
 }
 
-#[derive(Drop)]
+#[derive(Clone, Copy)]
 pub enum ShiftOp {
     Slw,
     Srw,
     Sraw,
 }
 
-#[derive(Drop)]
+#[derive(Clone, Copy)]
 pub enum StackOp {
     Lsku,
     Stsku,
 }
 
-#[derive(Drop)]
+#[derive(Clone, Copy)]
 pub enum BranchOp {
     Bclr,
     Bcctr,
 }
 
-#[derive(Drop)]
+#[derive(Clone, Copy)]
 pub enum SprOp {
     Mfspr,
     Mtspr,
 }
 
-#[derive(Drop)]
+#[derive(Clone, Copy)]
 pub enum MoveOp {
     Mfcr,
     Mtcr0,
@@ -355,7 +355,7 @@ pub enum MoveOp {
     Wrtee,
 }
 
-#[derive(Drop)]
+#[derive(Clone, Copy)]
 pub enum CacheOp {
     Dcbf,
     Dcbi,
@@ -364,7 +364,7 @@ pub enum CacheOp {
 }
 
 // How operands are taken: cmpw and mullhw as signed numbers, cmplw and mullhwu as unsigned ones.
-#[derive(Drop)]
+#[derive(Clone, Copy)]
 pub enum Sign {
     Signed,
     Unsigned,

@@ -1,3 +1,5 @@
+#![tactic(auto)]
+
 pub mod codes;
 pub mod fields;
 pub mod forms;

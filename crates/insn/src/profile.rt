@@ -5,7 +5,7 @@ ghost use Rattle.insn.specs.Profile.{is42x, column, arithmetic_on42, rotate_on42
 use crate::instr::*;
 use crate::valid::trap_form;
 
-#[derive(Drop)]
+#[derive(Clone, Copy)]
 pub enum Profile {
     Ppe42,
     Ppe42x,

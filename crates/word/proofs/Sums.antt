@@ -4,7 +4,7 @@ use mathlib.Core.Bool.{Bool, true, false, not, beq}
 use Prim.Native.Nat.{ℕ, suc, ◌+◌, ◌-◌, ◌%◌, ◌^◌, ◌≤◌, ◌<◌}
 use native.Mathlib.Omega.{arith}
 use lib.Dec.{leb}
-use lib.IntN.{ℤ, pos, negsuc, sub_ℕ, ◌+ℤ◌}
+use lib.IntN.{pos, negsuc, sub_ℕ, ◌+ℤ◌}
 use borrow.Author.Tests.{lt-ltb, le-ltb, le-leb, lt-leb}
 use Rattle.word.specs.Bits.{digit}
 use Rattle.word.specs.Sign.{signed, leaves_range}

@@ -3,11 +3,11 @@ ghost use Rattle.std.specs.Prelude.{◌≡◌, ◌+◌, ◌-◌, ◌^◌, ◌<�
 ghost use Rattle.word.specs.Bits.{IsBit, IsPart, bit_of, shift_of, bit_at, bits_at, field_at, digit};
 
 // The number of a bit of a word: 0 is the most significant.
-#[derive(Drop)]
+#[derive(Clone, Copy)]
 pub struct Bit(pub u8);
 
 // How far a word is shifted or rotated to the left or to the right.
-#[derive(Drop)]
+#[derive(Clone, Copy)]
 pub struct Shift(pub u8);
 
 impl Bit {

@@ -1,4 +1,6 @@
 // Words of 32 bits, and what the manual's pseudocode does to them (1.2, 2.11.3, 2.11.4, 9.4).
+#![tactic(auto)]
+
 pub mod bits; // bits.rt: bit numbers, shift amounts, and the parts of a word
 pub mod width; // width.rt: bytes, halfwords and words
 pub mod logical; // logical.rt: and, or, xor and their complements, count of leading zeros

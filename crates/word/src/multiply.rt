@@ -6,7 +6,7 @@ ghost use Rattle.word.specs.Sign.{signed};
 use crate::sign::extend_half;
 
 // The low word of a product, and whether the signed product has no word.
-#[derive(Drop)]
+#[derive(Clone, Copy)]
 pub struct Product {
     pub value: u32,
     pub overflow: bool,

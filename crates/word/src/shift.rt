@@ -6,7 +6,7 @@ ghost use Rattle.word.specs.Shift.{shift_in, slw, srw, sraw};
 use crate::bits::Shift;
 
 // A shifted word, and the carry of a signed shift.
-#[derive(Drop)]
+#[derive(Clone, Copy)]
 pub struct Shifted {
     pub value: u32,
     pub carry: bool,

@@ -1,7 +1,0 @@
--- `insn::read::cache` meets its contract: what is settled is made of the word's parts. Assumes nothing.
-use borrow.Author.Rules.{rules}
-use Rattle.insn.proofs.read.cache.Statement.{statement}
-use Rattle.insn.proofs.read.cache.Tie as tie
-
-pub cache_spec : {M : Type 1} → statement M
-cache_spec = tie.close (tie.spec (λ c κs. search rules) (λ c κs. search rules) (λ c κs. search rules) (λ c. rw (c.settle.ensures, c.before.before.fields-of.ensures)))

@@ -1,7 +1,0 @@
--- `insn::read::opcode` meets its contract: it is one of the word's parts. Assumes nothing.
-use borrow.Author.Rules.{rules}
-use Rattle.insn.proofs.read.opcode.Statement.{statement}
-use Rattle.insn.proofs.read.opcode.Tie as tie
-
-pub opcode_spec : {M : Type 1} → statement M
-opcode_spec = tie.close (tie.spec (λ c κs. search rules) (λ c. rw c.fields-of.ensures))

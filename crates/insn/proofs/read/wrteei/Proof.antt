@@ -1,7 +1,0 @@
--- `insn::read::wrteei` meets its contract: what is settled is made of the word's parts. Assumes nothing.
-use borrow.Author.Rules.{rules}
-use Rattle.insn.proofs.read.wrteei.Statement.{statement}
-use Rattle.insn.proofs.read.wrteei.Tie as tie
-
-pub wrteei_spec : {M : Type 1} → statement M
-wrteei_spec = tie.close (tie.spec (λ c κs. search rules) (λ c κs. search rules) (λ c κs. search rules) (λ c. rw (c.settle.ensures, c.before.before.fields-of.ensures)))
