@@ -2,7 +2,7 @@
 use Prim.Native.Nat.{ℕ, ◌+◌, ◌-◌, ◌/◌, ◌%◌, ◌^◌}
 use native.Mathlib.Omega.{arith}
 use mathlib.Core.Bool.{Bool, true, false}
-use mathlib.Core.Path.{◌≡◌, refl, sym, ap, ◌∙◌}
+use mathlib.Core.Path.{◌≡◌, refl, ap, ◌∙◌}
 use mathlib.Core.List.{List, [], ◌∷◌}
 use lib.Dec.{ltb}
 use lib.ListN.{length}
@@ -17,7 +17,7 @@ use Rattle.memory.specs.declared.load.LoadedDouble.{LoadedDouble}
 use Rattle.insn.specs.Valid.{paired_with}
 use Rattle.insn.specs.declared.instr.StackOp.{StackOp}
 use Rattle.insn.specs.declared.profile.Profile.{Profile}
-use Rattle.machine.specs.State.{gpr_of, vdr_of, with, with_gpr}
+use Rattle.machine.specs.State.{gpr_of, with, with_gpr}
 use Rattle.machine.specs.Interrupt.{interrupted_of}
 use Rattle.machine.specs.Result.{next_of}
 use Rattle.machine.specs.After.{After, plain}
@@ -86,27 +86,27 @@ module _ (p : Profile) (ra sp ea : ℕ) (s : State) (m : List ℕ) (a : ℕ) whe
       let h = double_value (access_of (length m) a 8) (double_at m a) v e in
       rw (served p StackOp.Lsku ra sp ea (pair n a) xs s m h.0, h.1, ← t) r
 
-  pub pair-unaligned : (n : ℕ) (xs : List Part) {r : State} → load_double_of m a ≡ LoadedDouble.Unaligned → r ≡ interrupted_of p s (Cause.Alignment a false) → Popped (pair n a ∷ xs) s r
+  pub pair_unaligned : (n : ℕ) (xs : List Part) {r : State} → load_double_of m a ≡ LoadedDouble.Unaligned → r ≡ interrupted_of p s (Cause.Alignment a false) → Popped (pair n a ∷ xs) s r
   unfolding load_double_of
-  pair-unaligned n xs e r = rw (unaligned p StackOp.Lsku ra sp ea (pair n a) xs s m (double_unaligned (access_of (length m) a 8) (double_at m a) e)) r
+  pair_unaligned n xs e r = rw (unaligned p StackOp.Lsku ra sp ea (pair n a) xs s m (double_unaligned (access_of (length m) a 8) (double_at m a) e)) r
 
   pub pair_outside : (n : ℕ) (xs : List Part) {r : State} → load_double_of m a ≡ LoadedDouble.Outside → r ≡ interrupted_of p s (Cause.DataStorage a false) → Popped (pair n a ∷ xs) s r
   unfolding load_double_of
   pair_outside n xs e r = rw (outside p StackOp.Lsku ra sp ea (pair n a) xs s m (double_outside (access_of (length m) a 8) (double_at m a) e)) r
 
-  pub link-read : (v : ℕ) {r : State} → load_of m a Width.Word ≡ Loaded.Value v → r ≡ next_of (with_gpr (with (with s Reg.Lr v) Reg.Edr ea) ra ea) → Popped (link a ∷ []) s r
+  pub link_read : (v : ℕ) {r : State} → load_of m a Width.Word ≡ Loaded.Value v → r ≡ next_of (with_gpr (with (with s Reg.Lr v) Reg.Edr ea) ra ea) → Popped (link a ∷ []) s r
   unfolding load_of framed_of
-  link-read v e r =
+  link_read v e r =
       let h = got_value (access_of (length m) a 4) (value_at Width.Word m a) v e in
       rw (h.0, h.1) r
 
-  pub link-unaligned : {r : State} → load_of m a Width.Word ≡ Loaded.Unaligned → r ≡ interrupted_of p s (Cause.Alignment a false) → Popped (link a ∷ []) s r
+  pub link_unaligned : {r : State} → load_of m a Width.Word ≡ Loaded.Unaligned → r ≡ interrupted_of p s (Cause.Alignment a false) → Popped (link a ∷ []) s r
   unfolding load_of
-  link-unaligned e r = rw (unaligned p StackOp.Lsku ra sp ea (link a) [] s m (got_unaligned (access_of (length m) a 4) (value_at Width.Word m a) e)) r
+  link_unaligned e r = rw (unaligned p StackOp.Lsku ra sp ea (link a) [] s m (got_unaligned (access_of (length m) a 4) (value_at Width.Word m a) e)) r
 
-  pub link-outside : {r : State} → load_of m a Width.Word ≡ Loaded.Outside → r ≡ interrupted_of p s (Cause.DataStorage a false) → Popped (link a ∷ []) s r
+  pub link_outside : {r : State} → load_of m a Width.Word ≡ Loaded.Outside → r ≡ interrupted_of p s (Cause.DataStorage a false) → Popped (link a ∷ []) s r
   unfolding load_of
-  link-outside e r = rw (outside p StackOp.Lsku ra sp ea (link a) [] s m (got_outside (access_of (length m) a 4) (value_at Width.Word m a) e)) r
+  link_outside e r = rw (outside p StackOp.Lsku ra sp ea (link a) [] s m (got_outside (access_of (length m) a 4) (value_at Width.Word m a) e)) r
 
 -- stsku: the state r and the memory b that an access and what comes after it leave, where k became of it and it left c
 module _ (p : Profile) (ra sp ea : ℕ) (x : Part) (xs : List Part) (s : State) (m : List ℕ) where
@@ -119,41 +119,41 @@ module _ (p : Profile) (ra sp ea : ℕ) (x : Part) (xs : List Part) (s : State) 
   pub stored_on : {r : State} {b : List ℕ} → Became Access.Served → Pushed xs (memory_after StackOp.Stsku ra x s m) r b → Pushed (x ∷ xs) m r b
   stored_on e h = rw (served p StackOp.Stsku ra sp ea x xs s m e) h
 
-  pub stored-unaligned : {r : State} {b : List ℕ} → Became Access.Unaligned → r ≡ interrupted_of p s (Cause.Alignment (address_of x) true) → b ≡ m → Pushed (x ∷ xs) m r b
-  stored-unaligned e r b = rw (unaligned p StackOp.Stsku ra sp ea x xs s m e) (r, b)
+  pub stored_unaligned : {r : State} {b : List ℕ} → Became Access.Unaligned → r ≡ interrupted_of p s (Cause.Alignment (address_of x) true) → b ≡ m → Pushed (x ∷ xs) m r b
+  stored_unaligned e r b = rw (unaligned p StackOp.Stsku ra sp ea x xs s m e) (r, b)
 
-  pub stored-outside : {r : State} {b : List ℕ} → Became Access.Outside → r ≡ interrupted_of p s (Cause.DataStorage (address_of x) true) → b ≡ m → Pushed (x ∷ xs) m r b
-  stored-outside e r b = rw (outside p StackOp.Stsku ra sp ea x xs s m e) (r, b)
+  pub stored_outside : {r : State} {b : List ℕ} → Became Access.Outside → r ≡ interrupted_of p s (Cause.DataStorage (address_of x) true) → b ≡ m → Pushed (x ∷ xs) m r b
+  stored_outside e r b = rw (outside p StackOp.Stsku ra sp ea x xs s m e) (r, b)
 
   -- what comes after it, from the memory n that it left
-  pub stored-through : {n : List ℕ} {r : State} {b : List ℕ} → Became Access.Served → n ≡ memory_after StackOp.Stsku ra x s m → Pushed xs n r b → Pushed (x ∷ xs) m r b
-  stored-through e h q = stored_on e (rw (← h) q)
+  pub stored_through : {n : List ℕ} {r : State} {b : List ℕ} → Became Access.Served → n ≡ memory_after StackOp.Stsku ra x s m → Pushed xs n r b → Pushed (x ∷ xs) m r b
+  stored_through e h q = stored_on e (rw (← h) q)
 
 -- what a store left in the memory, by what became of it
 module _ (m : List ℕ) (a v : ℕ) {b : List ℕ} where
-  pub word-put : {w : ℕ} → access_of (length m) a 4 ≡ Access.Served → v ≡ w → b ≡ stored_of m a Width.Word v → b ≡ sets m a (bytes_of Width.Word w)
+  pub word_put : {w : ℕ} → access_of (length m) a 4 ≡ Access.Served → v ≡ w → b ≡ stored_of m a Width.Word v → b ≡ sets m a (bytes_of Width.Word w)
   unfolding stored_of
-  word-put e q h = h ∙ ap (λ (j : Access). written j m a (bytes_of Width.Word v)) e ∙ ap (λ (u : ℕ). sets m a (bytes_of Width.Word u)) q
+  word_put e q h = h ∙ ap (λ (j : Access). written j m a (bytes_of Width.Word v)) e ∙ ap (λ (u : ℕ). sets m a (bytes_of Width.Word u)) q
 
-  pub word-kept-unaligned : access_of (length m) a 4 ≡ Access.Unaligned → b ≡ stored_of m a Width.Word v → b ≡ m
+  pub word_kept_unaligned : access_of (length m) a 4 ≡ Access.Unaligned → b ≡ stored_of m a Width.Word v → b ≡ m
   unfolding stored_of
-  word-kept-unaligned e h = h ∙ ap (λ (j : Access). written j m a (bytes_of Width.Word v)) e
+  word_kept_unaligned e h = h ∙ ap (λ (j : Access). written j m a (bytes_of Width.Word v)) e
 
-  pub word-kept-outside : access_of (length m) a 4 ≡ Access.Outside → b ≡ stored_of m a Width.Word v → b ≡ m
+  pub word_kept_outside : access_of (length m) a 4 ≡ Access.Outside → b ≡ stored_of m a Width.Word v → b ≡ m
   unfolding stored_of
-  word-kept-outside e h = h ∙ ap (λ (j : Access). written j m a (bytes_of Width.Word v)) e
+  word_kept_outside e h = h ∙ ap (λ (j : Access). written j m a (bytes_of Width.Word v)) e
 
-  pub double-put : (w : ℕ) → access_of (length m) a 8 ≡ Access.Served → v ≡ w → b ≡ stored_double_of m a v → b ≡ sets m a (double_bytes w)
+  pub double_put : (w : ℕ) → access_of (length m) a 8 ≡ Access.Served → v ≡ w → b ≡ stored_double_of m a v → b ≡ sets m a (double_bytes w)
   unfolding stored_double_of
-  double-put w e q h = h ∙ ap (λ (j : Access). written j m a (double_bytes v)) e ∙ ap (λ (u : ℕ). sets m a (double_bytes u)) q
+  double_put w e q h = h ∙ ap (λ (j : Access). written j m a (double_bytes v)) e ∙ ap (λ (u : ℕ). sets m a (double_bytes u)) q
 
-  pub double-kept-unaligned : access_of (length m) a 8 ≡ Access.Unaligned → b ≡ stored_double_of m a v → b ≡ m
+  pub double_kept_unaligned : access_of (length m) a 8 ≡ Access.Unaligned → b ≡ stored_double_of m a v → b ≡ m
   unfolding stored_double_of
-  double-kept-unaligned e h = h ∙ ap (λ (j : Access). written j m a (double_bytes v)) e
+  double_kept_unaligned e h = h ∙ ap (λ (j : Access). written j m a (double_bytes v)) e
 
-  pub double-kept-outside : access_of (length m) a 8 ≡ Access.Outside → b ≡ stored_double_of m a v → b ≡ m
+  pub double_kept_outside : access_of (length m) a 8 ≡ Access.Outside → b ≡ stored_double_of m a v → b ≡ m
   unfolding stored_double_of
-  double-kept-outside e h = h ∙ ap (λ (j : Access). written j m a (double_bytes v)) e
+  double_kept_outside e h = h ∙ ap (λ (j : Access). written j m a (double_bytes v)) e
 
 -- lsku writes no memory
 pop_cases : (p : Profile) (s : State) (m : List ℕ) (a : ℕ) (k : Access) (rest : After) → rest.mem ≡ m → (goes_on p s m false a k rest).mem ≡ m

@@ -85,162 +85,162 @@ stopped_coded s h = halted_coded s h (code_small h)
 
 -- one register written, and what interrupts, results, branches and moves to special registers write
 module _ {n : ℕ} {s : State} (k : Coded n s) where
-  gpr-coded : (g v : ℕ) → Coded n (with_gpr s g v)
+  gpr_coded : (g v : ℕ) → Coded n (with_gpr s g v)
   unfolding with_gpr
-  gpr-coded g v = record { halt = k.halt }
+  gpr_coded g v = record { halt = k.halt }
 
-  vdr-coded : (g v : ℕ) → Coded n (with_vdr s g v)
+  vdr_coded : (g v : ℕ) → Coded n (with_vdr s g v)
   unfolding with_vdr with_gpr
-  vdr-coded g v = record { halt = k.halt }
+  vdr_coded g v = record { halt = k.halt }
 
-  with-coded : (r : Reg) (v : ℕ) → same r Reg.Halt ≡ false → Coded n (with s r v)
+  with_coded : (r : Reg) (v : ℕ) → same r Reg.Halt ≡ false → Coded n (with s r v)
   unfolding with
-  with-coded r v e = record { halt = rw e k.halt }
+  with_coded r v e = record { halt = rw e k.halt }
 
-  next-coded : Coded n (next_of s)
+  next_coded : Coded n (next_of s)
   unfolding next_of
-  next-coded = with-coded Reg.Iar _ refl
+  next_coded = with_coded Reg.Iar _ refl
 
-  entered-coded : (p : Profile) (v : Vector) → Coded n (entered_of p s v)
+  entered_coded : (p : Profile) (v : Vector) → Coded n (entered_of p s v)
   unfolding entered_of with
-  entered-coded p v = record { halt = k.halt }
+  entered_coded p v = record { halt = k.halt }
 
-  noted-coded : (c : Cause) → Coded n (noted_of s c)
+  noted_coded : (c : Cause) → Coded n (noted_of s c)
   unfolding noted_of access_noted program_noted with
-  noted-coded (Cause.DataStorage address store) = record { halt = k.halt }
-  noted-coded Cause.InstructionStorage = k
-  noted-coded (Cause.Alignment address store) = record { halt = k.halt }
-  noted-coded (Cause.Program word trap) = record { halt = k.halt }
+  noted_coded (Cause.DataStorage address store) = record { halt = k.halt }
+  noted_coded Cause.InstructionStorage = k
+  noted_coded (Cause.Alignment address store) = record { halt = k.halt }
+  noted_coded (Cause.Program word trap) = record { halt = k.halt }
 
-  promoted-coded : (c : Cause) → Coded n (promoted_of s c)
+  promoted_coded : (c : Cause) → Coded n (promoted_of s c)
   unfolding promoted_of
-  promoted-coded c = with-coded Reg.Isr _ refl
+  promoted_coded c = with_coded Reg.Isr _ refl
 
-  recorded-coded : (v : ℕ) (rc : Bool) → Coded n (recorded_of s v rc)
+  recorded_coded : (v : ℕ) (rc : Bool) → Coded n (recorded_of s v rc)
   unfolding recorded_of cr0_of
-  recorded-coded v rc = picked (Coded n) rc (with-coded Reg.Cr _ refl) k
+  recorded_coded v rc = picked (Coded n) rc (with_coded Reg.Cr _ refl) k
 
-  carried-coded : (writes ca : Bool) → Coded n (carried_of s writes ca)
+  carried_coded : (writes ca : Bool) → Coded n (carried_of s writes ca)
   unfolding carried_of
-  carried-coded writes ca = picked (Coded n) writes (with-coded Reg.Xer _ refl) k
+  carried_coded writes ca = picked (Coded n) writes (with_coded Reg.Xer _ refl) k
 
-  overflowed-coded : (oe ov : Bool) → Coded n (overflowed_of s oe ov)
+  overflowed_coded : (oe ov : Bool) → Coded n (overflowed_of s oe ov)
   unfolding overflowed_of
-  overflowed-coded oe ov = picked (Coded n) oe (with-coded Reg.Xer _ refl) k
+  overflowed_coded oe ov = picked (Coded n) oe (with_coded Reg.Xer _ refl) k
 
-  updated-coded : (update : Bool) (ra ea : ℕ) → Coded n (updated_of s update ra ea)
+  updated_coded : (update : Bool) (ra ea : ℕ) → Coded n (updated_of s update ra ea)
   unfolding updated_of
-  updated-coded update ra ea = picked (Coded n) update (gpr-coded ra ea) k
+  updated_coded update ra ea = picked (Coded n) update (gpr_coded ra ea) k
 
-  linked-coded : (lk : Bool) → Coded n (linked_of s lk)
+  linked_coded : (lk : Bool) → Coded n (linked_of s lk)
   unfolding linked_of
-  linked-coded lk = picked (Coded n) lk (with-coded Reg.Lr _ refl) k
+  linked_coded lk = picked (Coded n) lk (with_coded Reg.Lr _ refl) k
 
 module _ {n : ℕ} {s : State} (k : Coded n s) where
-  interrupted-coded : 1 ≤ n → (p : Profile) (c : Cause) → Coded n (interrupted_of p s c)
+  interrupted_coded : 1 ≤ n → (p : Profile) (c : Cause) → Coded n (interrupted_of p s c)
   unfolding interrupted_of taken_for
-  interrupted-coded l p c =
-      let t = noted-coded k c in
-      picked (Coded n) (bit_at (noted_of s c).msr 15) (entered-coded t p (vector_for c))
-      (picked (Coded n) (bit_at (noted_of s c).msr 19) (entered-coded (promoted-coded t c) p Vector.MachineCheck) (halted_coded _ Halt.MachineCheck l))
+  interrupted_coded l p c =
+      let t = noted_coded k c in
+      picked (Coded n) (bit_at (noted_of s c).msr 15) (entered_coded t p (vector_for c))
+      (picked (Coded n) (bit_at (noted_of s c).msr 19) (entered_coded (promoted_coded t c) p Vector.MachineCheck) (halted_coded _ Halt.MachineCheck l))
 
-  result-coded : (r v : ℕ) (rc : Bool) → Coded n (result_of s r v rc)
+  result_coded : (r v : ℕ) (rc : Bool) → Coded n (result_of s r v rc)
   unfolding result_of
-  result-coded r v rc = next-coded (gpr-coded (recorded-coded k v rc) r v)
+  result_coded r v rc = next_coded (gpr_coded (recorded_coded k v rc) r v)
 
-  double-coded : (r v : ℕ) (rc : Bool) → Coded n (double_result_of s r v rc)
+  double_coded : (r v : ℕ) (rc : Bool) → Coded n (double_result_of s r v rc)
   unfolding double_result_of recorded_double_of cr0_of
-  double-coded r v rc = next-coded (vdr-coded (picked (Coded n) rc (with-coded k Reg.Cr _ refl) k) r v)
+  double_coded r v rc = next_coded (vdr_coded (picked (Coded n) rc (with_coded k Reg.Cr _ refl) k) r v)
 
-  enabled-coded : (e : Bool) → Coded n (enabled_of s e)
+  enabled_coded : (e : Bool) → Coded n (enabled_of s e)
   unfolding enabled_of
-  enabled-coded e = next-coded (with-coded k Reg.Msr _ refl)
+  enabled_coded e = next_coded (with_coded k Reg.Msr _ refl)
 
 -- the instructions
 module _ (p : Profile) {s : State} (k : Coded 5 s) where
-  dbcr-coded : (v : ℕ) → Coded 5 (dbcr_written p s v)
+  dbcr_coded : (v : ℕ) → Coded 5 (dbcr_written p s v)
   unfolding dbcr_written reset_of
-  dbcr-coded v = picked (Coded 5) (eqb (bits_at v 2 3) 0) (with-coded k Reg.Dbcr _ refl) (stopped_coded _ _)
+  dbcr_coded v = picked (Coded 5) (eqb (bits_at v 2 3) 0) (with_coded k Reg.Dbcr _ refl) (stopped_coded _ _)
 
-  spr-coded : (n v : ℕ) → Coded 5 (spr_written p s n v)
+  spr_coded : (n v : ℕ) → Coded 5 (spr_written p s n v)
   unfolding spr_written dec_written isr_written tsr_written written
-  spr-coded n v =
-      picked (Coded 5) (eqb n 22) (with-coded (with-coded k Reg.Tsr _ refl) Reg.Dec v refl)
-      (picked (Coded 5) (eqb n 62) (with-coded k Reg.Isr _ refl)
-      (picked (Coded 5) (eqb n 308) (dbcr-coded v)
-      (picked (Coded 5) (eqb n 336) (with-coded k Reg.Tsr _ refl) (with-coded k (spr_of n) _ (spr_other n)))))
+  spr_coded n v =
+      picked (Coded 5) (eqb n 22) (with_coded (with_coded k Reg.Tsr _ refl) Reg.Dec v refl)
+      (picked (Coded 5) (eqb n 62) (with_coded k Reg.Isr _ refl)
+      (picked (Coded 5) (eqb n 308) (dbcr_coded v)
+      (picked (Coded 5) (eqb n 336) (with_coded k Reg.Tsr _ refl) (with_coded k (spr_of n) _ (spr_other n)))))
 
-  summed-coded : (rt : ℕ) (sum : Sum) (carries oe rc : Bool) → Coded 5 (summed_of s rt sum carries oe rc)
+  summed_coded : (rt : ℕ) (sum : Sum) (carries oe rc : Bool) → Coded 5 (summed_of s rt sum carries oe rc)
   unfolding summed_of
-  summed-coded rt sum carries oe rc =
-      result-coded (overflowed-coded (carried-coded k carries sum.carry) oe sum.overflow) rt sum.value rc
+  summed_coded rt sum carries oe rc =
+      result_coded (overflowed_coded (carried_coded k carries sum.carry) oe sum.overflow) rt sum.value rc
 
-  arithmetic-coded : (i : Arithmetic) → Coded 5 (arithmetic_of s i)
+  arithmetic_coded : (i : Arithmetic) → Coded 5 (arithmetic_of s i)
   unfolding arithmetic_of multiplied_of
-  arithmetic-coded (Arithmetic.Immediate op rt ra si) = summed-coded rt _ _ false _
-  arithmetic-coded (Arithmetic.Register op rt ra rb oe rc) = summed-coded rt _ _ oe rc
-  arithmetic-coded (Arithmetic.One op rt ra oe rc) = summed-coded rt _ _ oe rc
-  arithmetic-coded (Arithmetic.Multiply sign rt ra rb rc) = result-coded k rt _ rc
-  arithmetic-coded (Arithmetic.MultiplyImm rt ra si) = result-coded k rt _ false
-  arithmetic-coded (Arithmetic.MultiplyLow rt ra rb oe rc) = result-coded (overflowed-coded k oe _) rt _ rc
+  arithmetic_coded (Arithmetic.Immediate op rt ra si) = summed_coded rt _ _ false _
+  arithmetic_coded (Arithmetic.Register op rt ra rb oe rc) = summed_coded rt _ _ oe rc
+  arithmetic_coded (Arithmetic.One op rt ra oe rc) = summed_coded rt _ _ oe rc
+  arithmetic_coded (Arithmetic.Multiply sign rt ra rb rc) = result_coded k rt _ rc
+  arithmetic_coded (Arithmetic.MultiplyImm rt ra si) = result_coded k rt _ false
+  arithmetic_coded (Arithmetic.MultiplyLow rt ra rb oe rc) = result_coded (overflowed_coded k oe _) rt _ rc
 
-  logical-coded : (i : Logical) → Coded 5 (logical_of s i)
+  logical_coded : (i : Logical) → Coded 5 (logical_of s i)
   unfolding logical_of
-  logical-coded (Logical.Immediate op rs ra ui) = result-coded k ra _ _
-  logical-coded (Logical.Register op rs ra rb rc) = result-coded k ra _ rc
-  logical-coded (Logical.One op rs ra rc) = result-coded k ra _ rc
+  logical_coded (Logical.Immediate op rs ra ui) = result_coded k ra _ _
+  logical_coded (Logical.Register op rs ra rb rc) = result_coded k ra _ rc
+  logical_coded (Logical.One op rs ra rc) = result_coded k ra _ rc
 
-  compare-coded : (i : Compare) → Coded 5 (compare_of s i)
+  compare_coded : (i : Compare) → Coded 5 (compare_of s i)
   unfolding compare_of compared_of cr0_of
-  compare-coded (Compare.Immediate sign ra imm) = next-coded (with-coded k Reg.Cr _ refl)
-  compare-coded (Compare.Register sign ra rb) = next-coded (with-coded k Reg.Cr _ refl)
+  compare_coded (Compare.Immediate sign ra imm) = next_coded (with_coded k Reg.Cr _ refl)
+  compare_coded (Compare.Register sign ra rb) = next_coded (with_coded k Reg.Cr _ refl)
 
-  shifted-coded : (ra : ℕ) (shifted : Shifted) (rc : Bool) → Coded 5 (shifted_of s ra shifted rc)
+  shifted_coded : (ra : ℕ) (shifted : Shifted) (rc : Bool) → Coded 5 (shifted_of s ra shifted rc)
   unfolding shifted_of
-  shifted-coded ra shifted rc = result-coded (carried-coded k true shifted.carry) ra shifted.value rc
+  shifted_coded ra shifted rc = result_coded (carried_coded k true shifted.carry) ra shifted.value rc
 
-  rotate-coded : (i : Rotate) → Coded 5 (rotate_of s i)
+  rotate_coded : (i : Rotate) → Coded 5 (rotate_of s i)
   unfolding rotate_of shift_of
-  rotate-coded (Rotate.Immediate op rs ra sh mb me rc) = result-coded k ra _ rc
-  rotate-coded (Rotate.Register rs ra rb mb me rc) = result-coded k ra _ rc
-  rotate-coded (Rotate.Shift ShiftOp.Slw rs ra rb rc) = result-coded k ra _ rc
-  rotate-coded (Rotate.Shift ShiftOp.Srw rs ra rb rc) = result-coded k ra _ rc
-  rotate-coded (Rotate.Shift ShiftOp.Sraw rs ra rb rc) = shifted-coded ra _ rc
-  rotate-coded (Rotate.Srawi rs ra sh rc) = shifted-coded ra _ rc
-  rotate-coded (Rotate.Double op ds da sh mb rc) = double-coded k da _ rc
+  rotate_coded (Rotate.Immediate op rs ra sh mb me rc) = result_coded k ra _ rc
+  rotate_coded (Rotate.Register rs ra rb mb me rc) = result_coded k ra _ rc
+  rotate_coded (Rotate.Shift ShiftOp.Slw rs ra rb rc) = result_coded k ra _ rc
+  rotate_coded (Rotate.Shift ShiftOp.Srw rs ra rb rc) = result_coded k ra _ rc
+  rotate_coded (Rotate.Shift ShiftOp.Sraw rs ra rb rc) = shifted_coded ra _ rc
+  rotate_coded (Rotate.Srawi rs ra sh rc) = shifted_coded ra _ rc
+  rotate_coded (Rotate.Double op ds da sh mb rc) = double_coded k da _ rc
 
-  branched-coded : (bo bi target : ℕ) (lk : Bool) → Coded 5 (branched_of s bo bi target lk)
+  branched_coded : (bo bi target : ℕ) (lk : Bool) → Coded 5 (branched_of s bo bi target lk)
   unfolding branched_of
-  branched-coded bo bi target lk = with-coded (with-coded (linked-coded k lk) Reg.Ctr _ refl) Reg.Iar _ refl
+  branched_coded bo bi target lk = with_coded (with_coded (linked_coded k lk) Reg.Ctr _ refl) Reg.Iar _ refl
 
-  branch-coded : (i : Branch) → Coded 5 (branch_of s i)
+  branch_coded : (i : Branch) → Coded 5 (branch_of s i)
   unfolding branch_of
-  branch-coded (Branch.Always aa lk li) = with-coded (linked-coded k lk) Reg.Iar _ refl
-  branch-coded (Branch.Conditional bo bi bd aa lk) = branched-coded bo bi _ lk
-  branch-coded (Branch.Register op bo bi bh lk) = branched-coded bo bi _ lk
+  branch_coded (Branch.Always aa lk li) = with_coded (linked_coded k lk) Reg.Iar _ refl
+  branch_coded (Branch.Conditional bo bi bd aa lk) = branched_coded bo bi _ lk
+  branch_coded (Branch.Register op bo bi bh lk) = branched_coded bo bi _ lk
 
-  trap-coded : (word to : ℕ) (tg : Bool) → Coded 5 (trap_of p s word to tg)
+  trap_coded : (word to : ℕ) (tg : Bool) → Coded 5 (trap_of p s word to tg)
   unfolding trap_of
-  trap-coded word to tg =
-      picked (Coded 5) (eqb to 0 || is42x p && tg) (next-coded k)
-      (picked (Coded 5) (bit_at s.dbcr 7) (stopped_coded s Halt.Trap) (interrupted-coded k (lit≤ tt) p (Cause.Program word true)))
+  trap_coded word to tg =
+      picked (Coded 5) (eqb to 0 || is42x p && tg) (next_coded k)
+      (picked (Coded 5) (bit_at s.dbcr 7) (stopped_coded s Halt.Trap) (interrupted_coded k (lit≤ tt) p (Cause.Program word true)))
 
-  moved-coded : (op : MoveOp) (r : ℕ) → Coded 5 (moved_of p s op r)
+  moved_coded : (op : MoveOp) (r : ℕ) → Coded 5 (moved_of p s op r)
   unfolding moved_of written
-  moved-coded MoveOp.Mfcr r = result-coded k r _ false
-  moved-coded MoveOp.Mtcr0 r = next-coded (with-coded k Reg.Cr _ refl)
-  moved-coded MoveOp.Mfmsr r = result-coded k r _ false
-  moved-coded MoveOp.Mtmsr r = next-coded (with-coded k Reg.Msr _ refl)
-  moved-coded MoveOp.Wrtee r = enabled-coded k _
+  moved_coded MoveOp.Mfcr r = result_coded k r _ false
+  moved_coded MoveOp.Mtcr0 r = next_coded (with_coded k Reg.Cr _ refl)
+  moved_coded MoveOp.Mfmsr r = result_coded k r _ false
+  moved_coded MoveOp.Mtmsr r = next_coded (with_coded k Reg.Msr _ refl)
+  moved_coded MoveOp.Wrtee r = enabled_coded k _
 
-  system-coded : (i : System) → Coded 5 (system_of p s i)
+  system_coded : (i : System) → Coded 5 (system_of p s i)
   unfolding system_of returned_of written
-  system-coded (System.Spr SprOp.Mfspr r n) = result-coded k r _ false
-  system-coded (System.Spr SprOp.Mtspr r n) = next-coded (spr-coded n _)
-  system-coded (System.Move op r) = moved-coded op r
-  system-coded (System.Wrteei e) = enabled-coded k e
-  system-coded System.Rfi = with-coded (with-coded k Reg.Msr _ refl) Reg.Iar _ refl
-  system-coded System.Sync = next-coded k
+  system_coded (System.Spr SprOp.Mfspr r n) = result_coded k r _ false
+  system_coded (System.Spr SprOp.Mtspr r n) = next_coded (spr_coded n _)
+  system_coded (System.Move op r) = moved_coded op r
+  system_coded (System.Wrteei e) = enabled_coded k e
+  system_coded System.Rfi = with_coded (with_coded k Reg.Msr _ refl) Reg.Iar _ refl
+  system_coded System.Sync = next_coded k
 
 -- the lines of a step from a running core
 record Left (a : After) : Type 0 where
@@ -257,32 +257,32 @@ module _ (p : Profile) (s : State) (z : s.halt ≡ 0) where
   outside : {m : List ℕ} (c : Cause) → Left (record { st = interrupted_of p s c; mem = m; past = true })
   outside c =
       let one : Coded 1 s = record { halt = rw z (lit≤ tt) } in
-      record { st = interrupted-coded five (lit≤ tt) p c; past = λ h. interrupted-coded one (lit≤ tt) p c }
+      record { st = interrupted_coded five (lit≤ tt) p c; past = λ h. interrupted_coded one (lit≤ tt) p c }
 
   fault : {m : List ℕ} (c : Cause) → Left (record { st = interrupted_of p s c; mem = m; past = false })
-  fault c = untold (interrupted-coded five (lit≤ tt) p c)
+  fault c = untold (interrupted_coded five (lit≤ tt) p c)
 
-  load-left : (m : List ℕ) (x : Access) (v rt : ℕ) (update : Bool) (ra ea : ℕ)
+  load_left : (m : List ℕ) (x : Access) (v rt : ℕ) (update : Bool) (ra ea : ℕ)
       → Left (record { st = loaded_state p s (loaded x v) rt update ra ea; mem = m; past = reaches_past x })
-  load-left m Access.Served v rt update ra ea = untold (next-coded (gpr-coded (updated-coded five update ra ea) rt v))
-  load-left m Access.Unaligned v rt update ra ea = fault (Cause.Alignment ea false)
-  load-left m Access.Outside v rt update ra ea = outside (Cause.DataStorage ea false)
+  load_left m Access.Served v rt update ra ea = untold (next_coded (gpr_coded (updated_coded five update ra ea) rt v))
+  load_left m Access.Unaligned v rt update ra ea = fault (Cause.Alignment ea false)
+  load_left m Access.Outside v rt update ra ea = outside (Cause.DataStorage ea false)
 
-  load-double-left : (m : List ℕ) (x : Access) (v dt : ℕ) (update : Bool) (ra ea : ℕ)
+  load_double_left : (m : List ℕ) (x : Access) (v dt : ℕ) (update : Bool) (ra ea : ℕ)
       → Left (record { st = loaded_double_state p s (loaded_double x v) dt update ra ea; mem = m; past = reaches_past x })
-  load-double-left m Access.Served v dt update ra ea = untold (next-coded (vdr-coded (updated-coded five update ra ea) dt v))
-  load-double-left m Access.Unaligned v dt update ra ea = fault (Cause.Alignment ea false)
-  load-double-left m Access.Outside v dt update ra ea = outside (Cause.DataStorage ea false)
+  load_double_left m Access.Served v dt update ra ea = untold (next_coded (vdr_coded (updated_coded five update ra ea) dt v))
+  load_double_left m Access.Unaligned v dt update ra ea = fault (Cause.Alignment ea false)
+  load_double_left m Access.Outside v dt update ra ea = outside (Cause.DataStorage ea false)
 
-  store-left : (m : List ℕ) (x : Access) (update : Bool) (ra ea : ℕ) → Left (record { st = stored_state p s x update ra ea; mem = m; past = reaches_past x })
-  store-left m Access.Served update ra ea = untold (next-coded (updated-coded five update ra ea))
-  store-left m Access.Unaligned update ra ea = fault (Cause.Alignment ea true)
-  store-left m Access.Outside update ra ea = outside (Cause.DataStorage ea true)
+  store_left : (m : List ℕ) (x : Access) (update : Bool) (ra ea : ℕ) → Left (record { st = stored_state p s x update ra ea; mem = m; past = reaches_past x })
+  store_left m Access.Served update ra ea = untold (next_coded (updated_coded five update ra ea))
+  store_left m Access.Unaligned update ra ea = fault (Cause.Alignment ea true)
+  store_left m Access.Outside update ra ea = outside (Cause.DataStorage ea true)
 
-  clear-left : (m : List ℕ) (x : Access) (ea : ℕ) → Left (record { st = cleared_state p s x ea; mem = m; past = reaches_past x })
-  clear-left m Access.Served ea = untold (next-coded five)
-  clear-left m Access.Unaligned ea = fault (Cause.Alignment ea true)
-  clear-left m Access.Outside ea = outside (Cause.DataStorage ea true)
+  clear_left : (m : List ℕ) (x : Access) (ea : ℕ) → Left (record { st = cleared_state p s x ea; mem = m; past = reaches_past x })
+  clear_left m Access.Served ea = untold (next_coded five)
+  clear_left m Access.Unaligned ea = fault (Cause.Alignment ea true)
+  clear_left m Access.Outside ea = outside (Cause.DataStorage ea true)
 
 -- an access of a frame halts nothing by itself
 read_halt : (s : State) (ra n v : ℕ) → s.halt ≡ 0 → (read_gpr s ra n v).halt ≡ 0
@@ -303,58 +303,58 @@ part_left p s z m store a Access.Outside l = outside p s z (Cause.DataStorage a 
 
 framed_left : (p : Profile) (op : StackOp) (ra sp ea : ℕ) (xs : List Part) (s : State) (m : List ℕ) → s.halt ≡ 0 → Left (framed_of p op ra sp ea xs s m)
 unfolding framed_of
-framed_left p op ra sp ea [] s m z = untold (next-coded (gpr-coded (with-coded (five p s z) Reg.Edr _ refl) ra ea))
+framed_left p op ra sp ea [] s m z = untold (next_coded (gpr_coded (with_coded (five p s z) Reg.Edr _ refl) ra ea))
 framed_left p op ra sp ea (x ∷ xs) s m z =
     part_left p s z m (stores_of op) (address_of x) (access_of (length m) (address_of x) (size_of x))
     (framed_left p op ra sp ea xs (state_after op ra x s m) (memory_after op ra x s m) (part_halt op ra x s m z))
 
 module _ (p : Profile) (s : State) (z : s.halt ≡ 0) (m : List ℕ) where
-  stack-left : (op : StackOp) (ra dd : ℕ) → Left (stack_of p s m op ra dd)
+  stack_left : (op : StackOp) (ra dd : ℕ) → Left (stack_of p s m op ra dd)
   unfolding stack_of
-  stack-left op ra dd = picked Left (aligned_of (gpr_of s ra) 8) (framed_left p op ra _ _ _ s m z) (fault p s z (Cause.Alignment (gpr_of s ra) (stores_of op)))
+  stack_left op ra dd = picked Left (aligned_of (gpr_of s ra) 8) (framed_left p op ra _ _ _ s m z) (fault p s z (Cause.Alignment (gpr_of s ra) (stores_of op)))
 
-  load-store-left : (i : LoadStore) → Left (load_store_of p s m i)
+  load_store_left : (i : LoadStore) → Left (load_store_of p s m i)
   unfolding load_store_of load_at store_at load_double_at store_double_at load_of load_double_of
-  load-store-left (LoadStore.Load w update rt ra d) = load-left p s z m (access_of (length m) (offset_ea s ra d) (bytes w)) _ rt update ra _
-  load-store-left (LoadStore.LoadIndexed w rt ra rb) = load-left p s z m (access_of (length m) (indexed_ea s ra rb) (bytes w)) _ rt false ra _
-  load-store-left (LoadStore.Store w update rs ra d) = store-left p s z _ (access_of (length m) (offset_ea s ra d) (bytes w)) update ra _
-  load-store-left (LoadStore.StoreIndexed w rs ra rb) = store-left p s z _ (access_of (length m) (indexed_ea s ra rb) (bytes w)) false ra _
-  load-store-left (LoadStore.LoadDouble update dt ra d) = load-double-left p s z m (access_of (length m) (offset_ea s ra d) 8) _ dt update ra _
-  load-store-left (LoadStore.StoreDouble update ds ra d) = store-left p s z _ (access_of (length m) (offset_ea s ra d) 8) update ra _
+  load_store_left (LoadStore.Load w update rt ra d) = load_left p s z m (access_of (length m) (offset_ea s ra d) (bytes w)) _ rt update ra _
+  load_store_left (LoadStore.LoadIndexed w rt ra rb) = load_left p s z m (access_of (length m) (indexed_ea s ra rb) (bytes w)) _ rt false ra _
+  load_store_left (LoadStore.Store w update rs ra d) = store_left p s z _ (access_of (length m) (offset_ea s ra d) (bytes w)) update ra _
+  load_store_left (LoadStore.StoreIndexed w rs ra rb) = store_left p s z _ (access_of (length m) (indexed_ea s ra rb) (bytes w)) false ra _
+  load_store_left (LoadStore.LoadDouble update dt ra d) = load_double_left p s z m (access_of (length m) (offset_ea s ra d) 8) _ dt update ra _
+  load_store_left (LoadStore.StoreDouble update ds ra d) = store_left p s z _ (access_of (length m) (offset_ea s ra d) 8) update ra _
 
-  cache-left : (op : CacheOp) (ra rb : ℕ) → Left (cache_of p s m op ra rb)
+  cache_left : (op : CacheOp) (ra rb : ℕ) → Left (cache_of p s m op ra rb)
   unfolding cache_of clear_at
-  cache-left CacheOp.Dcbf ra rb = untold (next-coded (five p s z))
-  cache-left CacheOp.Dcbi ra rb = untold (next-coded (five p s z))
-  cache-left CacheOp.Dcbt ra rb = untold (next-coded (five p s z))
-  cache-left CacheOp.Dcbz ra rb = clear-left p s z _ (access_of (length m) (block_at (indexed_ea s ra rb)) 32) _
+  cache_left CacheOp.Dcbf ra rb = untold (next_coded (five p s z))
+  cache_left CacheOp.Dcbi ra rb = untold (next_coded (five p s z))
+  cache_left CacheOp.Dcbt ra rb = untold (next_coded (five p s z))
+  cache_left CacheOp.Dcbz ra rb = clear_left p s z _ (access_of (length m) (block_at (indexed_ea s ra rb)) 32) _
 
-  execute-left : (w : ℕ) (i : Instr) → Left (execute_of p s m w i)
+  execute_left : (w : ℕ) (i : Instr) → Left (execute_of p s m w i)
   unfolding execute_of
-  execute-left w (Instr.Arithmetic i) = untold (arithmetic-coded p (five p s z) i)
-  execute-left w (Instr.Logical i) = untold (logical-coded p (five p s z) i)
-  execute-left w (Instr.Compare i) = untold (compare-coded p (five p s z) i)
-  execute-left w (Instr.Rotate i) = untold (rotate-coded p (five p s z) i)
-  execute-left w (Instr.LoadStore i) = load-store-left i
-  execute-left w (Instr.Stack dd op rt ra) = stack-left op ra dd
-  execute-left w (Instr.Branch i) = untold (branch-coded p (five p s z) i)
-  execute-left w (Instr.Trap to ra rb tg) = untold (trap-coded p (five p s z) w to tg)
-  execute-left w (Instr.System i) = untold (system-coded p (five p s z) i)
-  execute-left w (Instr.Cache op hint ra rb) = cache-left op ra rb
+  execute_left w (Instr.Arithmetic i) = untold (arithmetic_coded p (five p s z) i)
+  execute_left w (Instr.Logical i) = untold (logical_coded p (five p s z) i)
+  execute_left w (Instr.Compare i) = untold (compare_coded p (five p s z) i)
+  execute_left w (Instr.Rotate i) = untold (rotate_coded p (five p s z) i)
+  execute_left w (Instr.LoadStore i) = load_store_left i
+  execute_left w (Instr.Stack dd op rt ra) = stack_left op ra dd
+  execute_left w (Instr.Branch i) = untold (branch_coded p (five p s z) i)
+  execute_left w (Instr.Trap to ra rb tg) = untold (trap_coded p (five p s z) w to tg)
+  execute_left w (Instr.System i) = untold (system_coded p (five p s z) i)
+  execute_left w (Instr.Cache op hint ra rb) = cache_left op ra rb
 
-  decoded-left : (w : ℕ) (d : Decoded) → Left (decoded_of p s m w d)
-  decoded-left w (Decoded.Insn i) = execute-left w i
-  decoded-left w Decoded.Illegal = fault p s z (Cause.Program w false)
+  decoded_left : (w : ℕ) (d : Decoded) → Left (decoded_of p s m w d)
+  decoded_left w (Decoded.Insn i) = execute_left w i
+  decoded_left w Decoded.Illegal = fault p s z (Cause.Program w false)
 
-  fetched-left : (l : Loaded) → Left (fetched_of p s m l)
-  fetched-left (Loaded.Value w) = decoded-left w (decode_on p w)
-  fetched-left Loaded.Unaligned = fault p s z Cause.InstructionStorage
-  fetched-left Loaded.Outside = outside p s z Cause.InstructionStorage
+  fetched_left : (l : Loaded) → Left (fetched_of p s m l)
+  fetched_left (Loaded.Value w) = decoded_left w (decode_on p w)
+  fetched_left Loaded.Unaligned = fault p s z Cause.InstructionStorage
+  fetched_left Loaded.Outside = outside p s z Cause.InstructionStorage
 
-  interruptible-left : (q : Pending) → Left (interruptible_of p s m q)
+  interruptible_left : (q : Pending) → Left (interruptible_of p s m q)
   unfolding awake_of running_of
-  interruptible-left (Pending.Take v) = untold (entered-coded (five p s z) p v)
-  interruptible-left Pending.Nothing = picked Left (bit_at s.msr 13) (untold (five p s z)) (fetched-left (fetch_of m s.iar))
+  interruptible_left (Pending.Take v) = untold (entered_coded (five p s z) p v)
+  interruptible_left Pending.Nothing = picked Left (bit_at s.msr 13) (untold (five p s z)) (fetched_left (fetch_of m s.iar))
 
 ticked_halt : (s : State) (e : ℕ) → s.halt ≡ 0 → (ticked_of s e).halt ≡ 0
 unfolding ticked_of event_noted with
@@ -365,11 +365,11 @@ unfolding step_of counted_of acted_of
 step_left p s m e z =
     let t = ticked_of s e in
     rw (eq-eqb s.halt 0 z)
-    (picked Left (acts_of s e) (untold (stopped_coded _ _)) (interruptible-left p t (ticked_halt s e z) m (highest_of t e)))
+    (picked Left (acts_of s e) (untold (stopped_coded _ _)) (interruptible_left p t (ticked_halt s e z) m (highest_of t e)))
 
 module _ (p : Profile) (s : State) (m : List ℕ) (e : ℕ) (z : s.halt ≡ 0) where
-  pub step-halt : (step_of p s m e).st.halt ≤ 5
-  step-halt = (step_left p s m e z).st.halt
+  pub step_halt : (step_of p s m e).st.halt ≤ 5
+  step_halt = (step_left p s m e z).st.halt
 
-  pub reach-halt : (step_of p s m e).past ≡ true → (step_of p s m e).st.halt ≤ 1
-  reach-halt h = ((step_left p s m e z).past h).halt
+  pub reach_halt : (step_of p s m e).past ≡ true → (step_of p s m e).st.halt ≤ 1
+  reach_halt h = ((step_left p s m e z).past h).halt

@@ -10,7 +10,7 @@ use word::bits::{Bit, bit_at, digit_of};
 use word::rotate::put_at;
 
 // Where an interrupt goes.
-#[derive(Drop)]
+#[derive(Clone, Copy)]
 pub enum Vector {
     MachineCheck,
     DataStorage,
@@ -24,7 +24,7 @@ pub enum Vector {
 }
 
 // Why an instruction is interrupted.
-#[derive(Drop)]
+#[derive(Clone, Copy)]
 pub enum Cause {
     DataStorage { address: u32, store: bool },
     InstructionStorage,
@@ -33,7 +33,7 @@ pub enum Cause {
 }
 
 // Why a core halts.
-#[derive(Drop)]
+#[derive(Clone, Copy)]
 pub enum Halt {
     MachineCheck,
     Debug,

@@ -1,4 +1,6 @@
 // The machine: the state of a core, and what one step makes of it.
+#![tactic(auto)]
+
 pub mod state; // state.rt: the registers, each written alone
 pub mod refusal; // refusal.rt: refusals and their numbers
 pub mod register; // register.rt: defined bits, contents, acceptance

@@ -30,7 +30,7 @@ pub fn doublewords(op: StackOp, dd: u16) -> u16
 }
 
 // The first access of a frame that is not served, and its address.
-#[derive(Drop)]
+#[derive(Clone, Copy)]
 pub enum Missed {
     Nothing,
     Unaligned(u32),

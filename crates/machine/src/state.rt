@@ -5,7 +5,7 @@ ghost use Rattle.machine.specs.State.{place_of, gpr_of, base_of, vdr_of, with_gp
 use insn::valid::paired_with;
 use word::shift::select;
 
-#[derive(Drop)]
+#[derive(Clone, Copy)]
 pub struct State {
     pub gpr: [u32; 16],
     pub cr: u32,
@@ -31,7 +31,7 @@ pub struct State {
 }
 
 // The registers that are no GPR, with IAR and the halt code.
-#[derive(Drop)]
+#[derive(Clone, Copy)]
 pub enum Reg {
     Cr,
     Ctr,
@@ -56,7 +56,7 @@ pub enum Reg {
 }
 
 // The contents of two GPRs.
-#[derive(Drop)]
+#[derive(Clone, Copy)]
 pub struct Pair {
     pub a: u32,
     pub b: u32,

@@ -13,7 +13,7 @@ use memory::load::{Loaded, fetch};
 use word::bits::{Bit, bit_at};
 
 // Whether an asynchronous interrupt is to be taken, and where it goes.
-#[derive(Drop)]
+#[derive(Clone, Copy)]
 pub enum Pending {
     Take(Vector),
     Nothing,

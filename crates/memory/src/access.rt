@@ -8,7 +8,7 @@ ghost use Rattle.memory.specs.declared.access.Access.{Access};
 use word::width::{Width, size};
 
 // What becomes of it: unaligned is what is not served for its address, wherever that is.
-#[derive(Drop)]
+#[derive(Clone, Copy)]
 pub enum Access {
     Served,
     Unaligned,

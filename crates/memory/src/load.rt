@@ -7,14 +7,14 @@ ghost use Rattle.word.specs.declared.width.Width.{Width};
 use crate::access::{Access, access_at, double_access};
 use word::width::Width;
 
-#[derive(Drop)]
+#[derive(Clone, Copy)]
 pub enum Loaded {
     Value(u32),
     Unaligned,
     Outside,
 }
 
-#[derive(Drop)]
+#[derive(Clone, Copy)]
 pub enum LoadedDouble {
     Value(u64),
     Unaligned,
