@@ -14,9 +14,9 @@ use Rattle.tell.specs.Told.{running_told, interruptible_told}
 use Rattle.tell.specs.declared.told.Told.{Told}
 
 module _ (p : Profile) (s : State) (m : List ℕ) where
-  pub waits-told : (t : Pending) → (free t && bit_at s.msr 13) ≡ true → interruptible_told p s m t ≡ Told.Waits
-  waits-told (Pending.Take v) e = never (sym e)
-  waits-told Pending.Nothing e = rw e
+  pub waits_told : (t : Pending) → (free t && bit_at s.msr 13) ≡ true → interruptible_told p s m t ≡ Told.Waits
+  waits_told (Pending.Take v) e = never (sym e)
+  waits_told Pending.Nothing e = rw e
 
-  pub awake-told : (free Pending.Nothing && bit_at s.msr 13) ≡ false → interruptible_told p s m Pending.Nothing ≡ running_told (raised_of p s m)
-  awake-told e = rw e
+  pub awake_told : (free Pending.Nothing && bit_at s.msr 13) ≡ false → interruptible_told p s m Pending.Nothing ≡ running_told (raised_of p s m)
+  awake_told e = rw e

@@ -14,7 +14,7 @@ use memory::access::{Access, access_at, block_access, double_access};
 use memory::load::{Loaded, fetch};
 use word::bits::{Bit, bit_at};
 
-#[derive(Drop)]
+#[derive(Clone, Copy)]
 pub enum Raised {
     Nothing,
     Raises(Cause),

@@ -10,7 +10,7 @@ use machine::state::State;
 use machine::step::Pending;
 use word::bits::{Bit, bit_at};
 
-#[derive(Drop)]
+#[derive(Clone, Copy)]
 pub enum Told {
     Halted,
     Acts,

@@ -16,7 +16,7 @@ use word::bits::{Bit, bit_at};
 use word::width::{Width, size};
 
 // Nothing, or to read or write some bytes from an address on, or a stack frame with n doublewords between its headers.
-#[derive(Drop)]
+#[derive(Clone, Copy)]
 pub enum Use {
     Idle,
     Reads { at: u32, bytes: u8 },
