@@ -28,16 +28,16 @@ module _ (p : Profile) (ev : List ℕ) (s : State) (m : List ℕ) where
       let e : b - i ≡ suc (b - (i + 1)) = omega arith in
       rw (e, eq-eqb s.halt 0 z, add-one)
 
-  pub run-spent : (b i : ℕ) → b ≤ i → run_of p (b - i) i ev s m ≡ record { st = s; mem = m; steps = i }
+  pub run_spent : (b i : ℕ) → b ≤ i → run_of p (b - i) i ev s m ≡ record { st = s; mem = m; steps = i }
   unfolding run_of
-  run-spent b i h =
+  run_spent b i h =
       let e : b - i ≡ 0 = omega arith in
       rw e
 
-  pub run-halted : (n i : ℕ) → (s.halt ≡ 0 → ⊥) → run_of p n i ev s m ≡ record { st = s; mem = m; steps = i }
+  pub run_halted : (n i : ℕ) → (s.halt ≡ 0 → ⊥) → run_of p n i ev s m ≡ record { st = s; mem = m; steps = i }
   unfolding run_of
-  run-halted zero i h = refl
-  run-halted (suc n) i h = rw (ne_eqb s.halt 0 h)
+  run_halted zero i h = refl
+  run_halted (suc n) i h = rw (ne_eqb s.halt 0 h)
 
 -- a run whose first steps reached, or not, and whose next one did, or not
 turn_past : (t q r : Bool) → (t || pick q true r) ≡ ((t || q) || r)
@@ -53,16 +53,16 @@ module _ (p : Profile) (ev : List ℕ) (s : State) (m : List ℕ) where
       let e : b - i ≡ suc (b - (i + 1)) = omega arith in
       rw (e, eq-eqb s.halt 0 z, add-one) (turn_past t (step_of p s m (get_or ev i 0)).past _)
 
-  pub past-spent : (b i : ℕ) → b ≤ i → past_of p (b - i) i ev s m ≡ false
+  pub past_spent : (b i : ℕ) → b ≤ i → past_of p (b - i) i ev s m ≡ false
   unfolding past_of
-  past-spent b i h =
+  past_spent b i h =
       let e : b - i ≡ 0 = omega arith in
       rw e
 
-  pub past-halted : (n i : ℕ) → (s.halt ≡ 0 → ⊥) → past_of p n i ev s m ≡ false
+  pub past_halted : (n i : ℕ) → (s.halt ≡ 0 → ⊥) → past_of p n i ev s m ≡ false
   unfolding past_of
-  past-halted zero i h = refl
-  past-halted (suc n) i h = rw (ne_eqb s.halt 0 h)
+  past_halted zero i h = refl
+  past_halted (suc n) i h = rw (ne_eqb s.halt 0 h)
 
 pub or_nothing : (t : Bool) → (t || false) ≡ t
 or_nothing true = refl

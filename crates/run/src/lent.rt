@@ -12,7 +12,7 @@ use machine::refusal::{Refusal, accepts};
 use machine::state::State;
 
 // An outcome less its state, which stays where it was lent.
-#[derive(Drop)]
+#[derive(Clone, Copy)]
 pub struct Answer {
     pub refusal: Refusal,
     pub halt: u32,

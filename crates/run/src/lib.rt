@@ -1,4 +1,6 @@
 // Runs: the operations on a core that a bench uses, with every refusal.
+#![tactic(auto)]
+
 pub mod lent; // lent.rt: the single step over a lent state
 pub mod outcome; // outcome.rt: what is answered, and what is refused
 pub mod run; // run.rt: the run and the single step

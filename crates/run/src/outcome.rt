@@ -6,7 +6,7 @@ use insn::profile::Profile;
 use machine::refusal::{Refusal, accepts};
 use machine::state::State;
 
-#[derive(Drop)]
+#[derive(Clone, Copy)]
 pub struct Outcome {
     pub refusal: Refusal,
     pub state: State,

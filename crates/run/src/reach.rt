@@ -12,7 +12,7 @@ use marked::mark::unmark;
 use marked::step::step_marked;
 
 // A run's outcome, and whether it reached.
-#[derive(Drop)]
+#[derive(Clone, Copy)]
 pub struct Reached {
     pub outcome: Outcome,
     pub past: bool,

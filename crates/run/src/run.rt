@@ -9,7 +9,7 @@ use machine::refusal::{Refusal, accepts};
 use machine::state::State;
 
 // What the loop breaks with: the halt code, and the count of steps with it.
-#[derive(Drop)]
+#[derive(Clone, Copy)]
 pub struct Stop {
     pub halt: u32,
     pub steps: u32,
@@ -24,6 +24,7 @@ pub fn event_at(events: &[u8], i: u32) -> u8
 }
 
 // Steps until one halts or the budget is used, from step `from` of a run on.
+#[tactic(auto, using(crate::proofs::Laws::run_spent, crate::proofs::Laws::run_halted))]
 pub fn run_from(
     profile: Profile,
     start: State,

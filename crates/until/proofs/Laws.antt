@@ -25,16 +25,16 @@ module _ (p : Profile) (stops ev : List ℕ) (s : State) (m : List ℕ) (b i : �
       let e : b - i ≡ suc (b - (i + 1)) = omega arith in
       rw (e, h, eq-eqb s.halt 0 z, add-one) refl
 
-  pub rest-stopped : i < b → s.halt ≡ 0
+  pub rest_stopped : i < b → s.halt ≡ 0
       → (let a = step_of p s m (get_or ev i 0) in stop_at stops a.st.iar ≡ true → rest_of p stops b i ev s m ≡ record { st = a.st; mem = a.mem; steps = i + 1 })
   unfolding run_of until_of
-  rest-stopped l z h =
+  rest_stopped l z h =
       let e : b - i ≡ suc (b - (i + 1)) = omega arith in
       let c : until_of p stops (b - i) i ev s m ≡ 1 = rw (e, h) in
       rw (c, eq-eqb s.halt 0 z, add-one) refl
 
-  pub rest-spent : b ≤ i → rest_of p stops b i ev s m ≡ record { st = s; mem = m; steps = i }
+  pub rest_spent : b ≤ i → rest_of p stops b i ev s m ≡ record { st = s; mem = m; steps = i }
   unfolding run_of until_of
-  rest-spent h =
+  rest_spent h =
       let e : b - i ≡ 0 = omega arith in
       rw e
