@@ -9,13 +9,12 @@ use lib.Seq.{get_or-set_same, get_or-set_other}
 use lib.Dec.{eqb, ltb}
 use borrow.Author.Tests.{eqb-true, eqb-false, ltb-true, ltb-false}
 use Rattle.insn.specs.declared.profile.Profile.{Profile}
-use Rattle.memory.specs.Load.{fetch_of}
-use Rattle.reading.specs.Reading.{reading_in, reading_of}
+use Rattle.reading.specs.Reading.{reading_of}
 use Rattle.reading.specs.declared.form.Form.{Form}
 use Rattle.reading.specs.declared.reading.Reading.{Reading}
 use Rattle.entries.specs.Tags.{tag_at, set_of}
-use Rattle.entries.proofs.Nested.{nested_same, nested-other-way, nested-other-set}
-use Rattle.entries.proofs.Drops.{other-ways, written}
+use Rattle.entries.proofs.Nested.{nested_same, nested_other_way, nested_other_set}
+use Rattle.entries.proofs.Drops.{other_ways, written}
 use Rattle.perform.specs.Performed.{Still}
 use Rattle.engine.specs.Engine.{kept_at, Good, Sized}
 
@@ -52,11 +51,11 @@ module _ (p : Profile) (t : List (List ℕ)) (k : List (List Reading)) (m : List
       → (set_of b ≡ r) × (kept_at (set k s (set (get_or k s []) v (reading_of p m a))) r w ≡ reading_of p m b)
   unfolding Good
   filled_at r w b false y e f l q =
-      let o = g r w b l (sym (nested-other-set t s v (a + 1) 0 r w (eqb-false r s e)) ∙ q) in
-      (o.0, nested-other-set k s v (reading_of p m a) none r w (eqb-false r s e) ∙ o.1)
+      let o = g r w b l (sym (nested_other_set t s v (a + 1) 0 r w (eqb-false r s e)) ∙ q) in
+      (o.0, nested_other_set k s v (reading_of p m a) none r w (eqb-false r s e) ∙ o.1)
   filled_at r w b true false e f l q =
-      let o = g s w b l (sym (other-ways t s v w (a + 1) (eqb-false w v f)) ∙ (rw (eqb-true r s e) at q)) in
-      rw (eqb-true r s e) (o.0, nested-other-way k s v (reading_of p m a) none w (below_sets k s hs z) (eqb-false w v f) ∙ o.1)
+      let o = g s w b l (sym (other_ways t s v w (a + 1) (eqb-false w v f)) ∙ (rw (eqb-true r s e) at q)) in
+      rw (eqb-true r s e) (o.0, nested_other_way k s v (reading_of p m a) none w (below_sets k s hs z) (eqb-false w v f) ∙ o.1)
   filled_at r w b true true e f l q =
       let y : a ≡ b = written t s v a b (rw (eqb-true r s e, eqb-true w v f) at q) in
       rw (eqb-true r s e, eqb-true w v f, ← y) (h, nested_same k s v (reading_of p m a) none (below_sets k s hs z) (below_ways k s v hs hv z))

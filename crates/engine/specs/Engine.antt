@@ -1,5 +1,5 @@
 -- What the engine keeps, and how far it has come. This serves code alone: its run is Run's.
-use Rattle.std.specs.Prelude.{ℕ, ◌+◌, ◌-◌, ◌<◌, ◌≤◌, ◌||◌, ◌≡◌, List, [], get_or, length}
+use Rattle.std.specs.Prelude.{ℕ, ◌+◌, ◌-◌, ◌<◌, ◌||◌, ◌≡◌, List, [], get_or, length}
 use Rattle.insn.specs.declared.profile.Profile.{Profile}
 use Rattle.machine.specs.declared.state.State.{State}
 use Rattle.reading.specs.Reading.{reading_of}

@@ -15,7 +15,7 @@ use run::run::event_at;
 use word::sum::plus;
 
 // How far a run has come: its state, its steps, and whether one of them reached past memory.
-#[derive(Drop)]
+#[derive(Clone, Copy)]
 pub struct Stretch {
     pub state: State,
     pub steps: u32,

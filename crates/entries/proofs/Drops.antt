@@ -1,6 +1,6 @@
 -- Entries emptied: of a way, of the four ways of a set, of the words of some bytes and of a block. Assumes nothing.
 use Prim.Native.Nat.{ℕ, zero, suc, ◌+◌, ◌-◌, ◌*◌, ◌/◌, ◌%◌, ◌≤◌, ◌<◌}
-use native.Mathlib.Nat.{add-zero, mul-div_cancel, div-add-mod'}
+use native.Mathlib.Nat.{add-zero, mul-div_cancel}
 use native.Mathlib.Omega.{arith}
 use mathlib.Core.Bool.{Bool, true, false}
 use mathlib.Core.Path.{◌≡◌, refl, ◌∙◌, sym}
@@ -9,8 +9,8 @@ use lib.ListN.{get_or, length, set, get_or-eq_default}
 use lib.Seq.{get_or-set_same, set_out}
 use lib.Dec.{eqb, ltb, lit<}
 use borrow.Author.Tests.{eqb-true, eqb-false, ltb-true, ltb-false}
-use Rattle.entries.specs.Tags.{tag_at, set_of, Fewer, Dropped, Apart, Without}
-use Rattle.entries.proofs.Nested.{nested_same, nested-other-way, nested-other-set}
+use Rattle.entries.specs.Tags.{tag_at, set_of, Fewer, Dropped, Without}
+use Rattle.entries.proofs.Nested.{nested_same, nested_other_way, nested_other_set}
 use Rattle.entries.proofs.Words.{two_words, eight_words}
 
 -- out of range an entry is empty, so what is emptied reads as empty wherever it stands
@@ -23,50 +23,50 @@ module _ (t : List (List ℕ)) (s v : ℕ) where
   none_here false e h f =
       rw (set_out t s (set (get_or t s []) v 0) (ltb-false s (length t) h), get_or-eq_default t [] (ltb-false s (length t) h)) refl
 
-  emptied-here : tag_at (set t s (set (get_or t s []) v 0)) s v ≡ 0
-  emptied-here = none_here (ltb s (length t)) (ltb v (length (get_or t s []))) refl refl
+  emptied_here : tag_at (set t s (set (get_or t s []) v 0)) s v ≡ 0
+  emptied_here = none_here (ltb s (length t)) (ltb v (length (get_or t s []))) refl refl
 
-  pub emptied-none : (a : ℕ) → 0 < a → tag_at (set t s (set (get_or t s []) v 0)) s v ≡ a → ⊥
-  emptied-none a h p =
-      let q : 0 ≡ a = sym emptied-here ∙ p in
+  pub emptied_none : (a : ℕ) → 0 < a → tag_at (set t s (set (get_or t s []) v 0)) s v ≡ a → ⊥
+  emptied_none a h p =
+      let q : 0 ≡ a = sym emptied_here ∙ p in
       omega arith
 
   other_way : (w : ℕ) (x : ℕ) (b : Bool) → ltb s (length t) ≡ b → (w ≡ v → ⊥) → tag_at (set t s (set (get_or t s []) v x)) s w ≡ tag_at t s w
-  other_way w x true h n = nested-other-way t s v x 0 w (ltb-true s (length t) h) n
+  other_way w x true h n = nested_other_way t s v x 0 w (ltb-true s (length t) h) n
   other_way w x false h n = rw (set_out t s (set (get_or t s []) v x) (ltb-false s (length t) h)) refl
 
-  pub other-ways : (w : ℕ) (x : ℕ) → (w ≡ v → ⊥) → tag_at (set t s (set (get_or t s []) v x)) s w ≡ tag_at t s w
-  other-ways w x n = other_way w x (ltb s (length t)) refl n
+  pub other_ways : (w : ℕ) (x : ℕ) → (w ≡ v → ⊥) → tag_at (set t s (set (get_or t s []) v x)) s w ≡ tag_at t s w
+  other_ways w x n = other_way w x (ltb s (length t)) refl n
 
-  emptied-at : (r w a : ℕ) (b e : Bool) → eqb r s ≡ b → eqb w v ≡ e → tag_at (set t s (set (get_or t s []) v 0)) r w ≡ a + 1 → tag_at t r w ≡ a + 1
-  emptied-at r w a false e h f p = sym (nested-other-set t s v 0 0 r w (eqb-false r s h)) ∙ p
-  emptied-at r w a true false h f p =
-      rw (eqb-true r s h) (sym (other-ways w 0 (eqb-false w v f)) ∙ (rw (eqb-true r s h) at p))
-  emptied-at r w a true true h f p =
-      let q : 0 ≡ a + 1 = sym emptied-here ∙ (rw (eqb-true r s h, eqb-true w v f) at p) in
+  emptied_at : (r w a : ℕ) (b e : Bool) → eqb r s ≡ b → eqb w v ≡ e → tag_at (set t s (set (get_or t s []) v 0)) r w ≡ a + 1 → tag_at t r w ≡ a + 1
+  emptied_at r w a false e h f p = sym (nested_other_set t s v 0 0 r w (eqb-false r s h)) ∙ p
+  emptied_at r w a true false h f p =
+      rw (eqb-true r s h) (sym (other_ways w 0 (eqb-false w v f)) ∙ (rw (eqb-true r s h) at p))
+  emptied_at r w a true true h f p =
+      let q : 0 ≡ a + 1 = sym emptied_here ∙ (rw (eqb-true r s h, eqb-true w v f) at p) in
       absurd (omega arith)
 
   pub emptied : Fewer t (set t s (set (get_or t s []) v 0))
   unfolding Fewer
-  emptied r w a p = emptied-at r w a (eqb r s) (eqb w v) refl refl p
+  emptied r w a p = emptied_at r w a (eqb r s) (eqb w v) refl refl p
 
   -- what is written at a place is what is read there, or nothing is
-  written-here : (x a : ℕ) (b e : Bool) → ltb s (length t) ≡ b → ltb v (length (get_or t s [])) ≡ e
+  written_here : (x a : ℕ) (b e : Bool) → ltb s (length t) ≡ b → ltb v (length (get_or t s [])) ≡ e
       → tag_at (set t s (set (get_or t s []) v (x + 1))) s v ≡ a + 1 → x ≡ a
-  written-here x a true true h f p =
+  written_here x a true true h f p =
       let q : x + 1 ≡ a + 1 = sym (nested_same t s v (x + 1) 0 (ltb-true s (length t) h) (ltb-true v (length (get_or t s [])) f)) ∙ p in
       omega arith
-  written-here x a true false h f p =
+  written_here x a true false h f p =
       let o : tag_at (set t s (set (get_or t s []) v (x + 1))) s v ≡ 0 = rw (get_or-set_same t s (set (get_or t s []) v (x + 1)) [] (ltb-true s (length t) h), set_out (get_or t s []) v (x + 1) (ltb-false v (length (get_or t s [])) f)) (get_or-eq_default (get_or t s []) 0 (ltb-false v (length (get_or t s [])) f)) in
       let q : 0 ≡ a + 1 = sym o ∙ p in
       absurd (omega arith)
-  written-here x a false e h f p =
+  written_here x a false e h f p =
       let o : tag_at (set t s (set (get_or t s []) v (x + 1))) s v ≡ 0 = rw (set_out t s (set (get_or t s []) v (x + 1)) (ltb-false s (length t) h), get_or-eq_default t [] (ltb-false s (length t) h)) refl in
       let q : 0 ≡ a + 1 = sym o ∙ p in
       absurd (omega arith)
 
   pub written : (x a : ℕ) → tag_at (set t s (set (get_or t s []) v (x + 1))) s v ≡ a + 1 → x ≡ a
-  written x a p = written-here x a (ltb s (length t)) (ltb v (length (get_or t s []))) refl refl p
+  written x a p = written_here x a (ltb s (length t)) (ltb v (length (get_or t s []))) refl refl p
 
 pub fewer_same : (t : List (List ℕ)) → Fewer t t
 unfolding Fewer

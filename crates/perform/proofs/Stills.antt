@@ -40,25 +40,25 @@ still_same t m s w a l p = (p, λ q. refl)
 
 -- the memory k that a load leaves is as it was
 module _ (t : List (List ℕ)) (m k : List ℕ) (p : Profile) (s : State) where
-  pub still-load : (w : Width) (update : Bool) (rt ra d : ℕ) → k ≡ (load_store_of p s m (LoadStore.Load w update rt ra d)).mem → Still t t m k
+  pub still_load : (w : Width) (update : Bool) (rt ra d : ℕ) → k ≡ (load_store_of p s m (LoadStore.Load w update rt ra d)).mem → Still t t m k
   unfolding load_store_of load_at
-  still-load w update rt ra d h = rw h (still_same t m)
+  still_load w update rt ra d h = rw h (still_same t m)
 
-  pub still-load-indexed : (w : Width) (rt ra rb : ℕ) → k ≡ (load_store_of p s m (LoadStore.LoadIndexed w rt ra rb)).mem → Still t t m k
+  pub still_load_indexed : (w : Width) (rt ra rb : ℕ) → k ≡ (load_store_of p s m (LoadStore.LoadIndexed w rt ra rb)).mem → Still t t m k
   unfolding load_store_of load_at
-  still-load-indexed w rt ra rb h = rw h (still_same t m)
+  still_load_indexed w rt ra rb h = rw h (still_same t m)
 
-  pub still-load-double : (update : Bool) (dt ra d : ℕ) → k ≡ (load_store_of p s m (LoadStore.LoadDouble update dt ra d)).mem → Still t t m k
+  pub still_load_double : (update : Bool) (dt ra d : ℕ) → k ≡ (load_store_of p s m (LoadStore.LoadDouble update dt ra d)).mem → Still t t m k
   unfolding load_store_of load_double_at
-  still-load-double update dt ra d h = rw h (still_same t m)
+  still_load_double update dt ra d h = rw h (still_same t m)
 
   pop_cases : (b : Bool) (x : After) (o : State) → x.mem ≡ m → (pick b x (plain o m)).mem ≡ m
   pop_cases true x o h = h
   pop_cases false x o h = refl
 
-  pub still-pop : (ra dd : ℕ) → k ≡ (stack_of p s m StackOp.Lsku ra dd).mem → Still t t m k
+  pub still_pop : (ra dd : ℕ) → k ≡ (stack_of p s m StackOp.Lsku ra dd).mem → Still t t m k
   unfolding stack_of
-  still-pop ra dd h = rw (h ∙ pop_cases (aligned_of (gpr_of s ra) 8) _ _ (pop_memory _ _ _ _ _ _ _)) (still_same t m)
+  still_pop ra dd h = rw (h ∙ pop_cases (aligned_of (gpr_of s ra) 8) _ _ (pop_memory _ _ _ _ _ _ _)) (still_same t m)
 
 -- and what a store, a clear or a frame leaves, by what was dropped
 module _ (t u : List (List ℕ)) (m : List ℕ) where
@@ -66,45 +66,45 @@ module _ (t u : List (List ℕ)) (m : List ℕ) where
   unfolding Still Fewer Without
   stored ea w v d s k a l p = (d.0 s k a p, λ q. fetch_stored m ea a w v (λ z. d.1 (width_fits ea w) s k a l q z p))
 
-  stored-double : (ea v : ℕ) → Fewer t u × (ea % 4 + 8 ≤ 8 → Without u ea 8) → Still t u m (stored_double_of m ea v)
+  stored_double : (ea v : ℕ) → Fewer t u × (ea % 4 + 8 ≤ 8 → Without u ea 8) → Still t u m (stored_double_of m ea v)
   unfolding Still Fewer Without
-  stored-double ea v d s k a l p = (d.0 s k a p, λ q. fetch_stored_double m ea a v (λ h z. d.1 (double_fits ea h) s k a l q z p))
+  stored_double ea v d s k a l p = (d.0 s k a p, λ q. fetch_stored_double m ea a v (λ h z. d.1 (double_fits ea h) s k a l q z p))
 
   cleared : (ea : ℕ) → Fewer t u × Without u (ea / 32 * 32) 32 → Still t u m (cleared_of m ea)
   unfolding Still Fewer Without
   cleared ea d s k a l p = (d.0 s k a p, λ q. fetch_cleared m ea a (λ z. d.1 s k a l q z p))
 
   -- a frame has both pairs, the first, or none
-  frame-cases : (sp ea s w a : ℕ) (b c : Bool) → Framed t u sp ea → w < 4 → set_of a ≡ s → tag_at u s w ≡ a + 1
+  frame_cases : (sp ea s w a : ℕ) (b c : Bool) → Framed t u sp ea → w < 4 → set_of a ≡ s → tag_at u s w ≡ a + 1
       → PartsApart a (link ((sp + 4) % 2 ^ 32) ∷ pick b (pair 30 ((sp + (2 ^ 32 - 8)) % 2 ^ 32) ∷ pick c (pair 28 ((sp + (2 ^ 32 - 16)) % 2 ^ 32) ∷ back ea ∷ []) (back ea ∷ [])) (back ea ∷ []))
   unfolding Without
-  frame-cases sp ea s w a true true f l q p = (
+  frame_cases sp ea s w a true true f l q p = (
     λ h z. f.link s w a l q z p,
     (λ h z. f.first (double_fits ((sp + (2 ^ 32 - 8)) % 2 ^ 32) h) s w a l q z p, (λ h z. f.second (double_fits ((sp + (2 ^ 32 - 16)) % 2 ^ 32) h) s w a l q z p, (λ h z. f.back s w a l q z p, tt))),
   )
-  frame-cases sp ea s w a true false f l q p = (λ h z. f.link s w a l q z p, (λ h z. f.first (double_fits ((sp + (2 ^ 32 - 8)) % 2 ^ 32) h) s w a l q z p, (λ h z. f.back s w a l q z p, tt)))
-  frame-cases sp ea s w a false c f l q p = (λ h z. f.link s w a l q z p, (λ h z. f.back s w a l q z p, tt))
+  frame_cases sp ea s w a true false f l q p = (λ h z. f.link s w a l q z p, (λ h z. f.first (double_fits ((sp + (2 ^ 32 - 8)) % 2 ^ 32) h) s w a l q z p, (λ h z. f.back s w a l q z p, tt)))
+  frame_cases sp ea s w a false c f l q p = (λ h z. f.link s w a l q z p, (λ h z. f.back s w a l q z p, tt))
 
   stacked : (p : Profile) (s : State) (op : StackOp) (ra dd : ℕ) → Framed t u (gpr_of s ra) (frame_ea s ra dd) → Still t u m (stack_of p s m op ra dd).mem
   unfolding Still Fewer
   stacked p s op ra dd f k w a l e = (
     f.fewer k w a e,
-    λ q. fetch_stack p s m op ra dd a (frame-cases (gpr_of s ra) (frame_ea s ra dd) k w a (ltb 0 (doublewords StackOp.Stsku dd)) (ltb 1 (doublewords StackOp.Stsku dd)) f l q e),
+    λ q. fetch_stack p s m op ra dd a (frame_cases (gpr_of s ra) (frame_ea s ra dd) k w a (ltb 0 (doublewords StackOp.Stsku dd)) (ltb 1 (doublewords StackOp.Stsku dd)) f l q e),
   )
 
   -- the same of the memory k, with what the dropped address e and size n are
   module _ (k : List ℕ) where
-    pub still-stored : (e n ea : ℕ) (w : Width) (v : ℕ) → e ≡ ea → n ≡ bytes w → Fewer t u × (e % 4 + n ≤ 8 → Without u e n) → k ≡ stored_of m ea w v → Still t u m k
-    still-stored e n ea w v q r d h = rw h (stored ea w v (rw (q, r) at d))
+    pub still_stored : (e n ea : ℕ) (w : Width) (v : ℕ) → e ≡ ea → n ≡ bytes w → Fewer t u × (e % 4 + n ≤ 8 → Without u e n) → k ≡ stored_of m ea w v → Still t u m k
+    still_stored e n ea w v q r d h = rw h (stored ea w v (rw (q, r) at d))
 
-    pub still-stored-double : (e ea v : ℕ) → e ≡ ea → Fewer t u × (e % 4 + 8 ≤ 8 → Without u e 8) → k ≡ stored_double_of m ea v → Still t u m k
-    still-stored-double e ea v q d h = rw h (stored-double ea v (rw q at d))
+    pub still_stored_double : (e ea v : ℕ) → e ≡ ea → Fewer t u × (e % 4 + 8 ≤ 8 → Without u e 8) → k ≡ stored_double_of m ea v → Still t u m k
+    still_stored_double e ea v q d h = rw h (stored_double ea v (rw q at d))
 
-    pub still-cleared : (e ea : ℕ) → e ≡ ea → Fewer t u × Without u (e / 32 * 32) 32 → k ≡ cleared_of m ea → Still t u m k
-    still-cleared e ea q d h = rw h (cleared ea (rw q at d))
+    pub still_cleared : (e ea : ℕ) → e ≡ ea → Fewer t u × Without u (e / 32 * 32) 32 → k ≡ cleared_of m ea → Still t u m k
+    still_cleared e ea q d h = rw h (cleared ea (rw q at d))
 
-    pub still-stack : (p : Profile) (s : State) (op : StackOp) (ra dd sp e : ℕ) → sp ≡ gpr_of s ra → e ≡ frame_ea s ra dd → Framed t u sp e → k ≡ (stack_of p s m op ra dd).mem → Still t u m k
-    still-stack p s op ra dd sp e q r f h = rw h (stacked p s op ra dd (rw (q, r) at f))
+    pub still_stack : (p : Profile) (s : State) (op : StackOp) (ra dd sp e : ℕ) → sp ≡ gpr_of s ra → e ≡ frame_ea s ra dd → Framed t u sp e → k ≡ (stack_of p s m op ra dd).mem → Still t u m k
+    still_stack p s op ra dd sp e q r f h = rw h (stacked p s op ra dd (rw (q, r) at f))
 
 -- the four parts of a frame, dropped one after the other
 pub framed : (t0 t1 t2 t3 t4 : List (List ℕ)) (sp ea a b c : ℕ) → a ≡ (sp + 4) % 2 ^ 32 → b ≡ (sp + (2 ^ 32 - 8)) % 2 ^ 32 → c ≡ (sp + (2 ^ 32 - 16)) % 2 ^ 32

@@ -6,7 +6,7 @@ ghost use Rattle.reading.specs.Form.{arithmetic_form, logical_form, compare_form
 use insn::instr::*;
 use word::width::Width;
 
-#[derive(Drop)]
+#[derive(Clone, Copy)]
 pub enum Form {
     // no word: its address is not a multiple of 4, or past memory
     Unaligned,

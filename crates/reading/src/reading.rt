@@ -8,7 +8,7 @@ use insn::profile::Profile;
 use insn::read::read;
 use memory::load::{Loaded, fetch};
 
-#[derive(Drop)]
+#[derive(Clone, Copy)]
 pub struct Reading {
     pub word: u32,
     pub form: Form,

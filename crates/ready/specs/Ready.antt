@@ -1,5 +1,5 @@
 -- A step taken apart: what its lines 2 to 5 leave, and whether line 6 comes. This serves code alone; Step has the six lines.
-use Rattle.std.specs.Prelude.{ℕ, Bool, true, false, not}
+use Rattle.std.specs.Prelude.{ℕ, false, not}
 use Rattle.word.specs.Bits.{bit_at}
 use Rattle.memory.specs.Access.{pick}
 use Rattle.insn.specs.declared.profile.Profile.{Profile}

@@ -9,7 +9,7 @@ use machine::step::Pending;
 use word::bits::{Bit, bit_at};
 
 // The state at the end of line 5, and whether line 6 is to come.
-#[derive(Drop)]
+#[derive(Clone, Copy)]
 pub struct Ready {
     pub state: State,
     pub runs: bool,
