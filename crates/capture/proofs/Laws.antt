@@ -68,17 +68,17 @@ pub state_bytes : (s : State) → length s.gpr ≡ 16 → length (word_bytes (wo
 state_bytes s g = omega (arith, bytes_length (words_of s), state_words s g)
 
 module _ (s : State) (m : List ℕ) (g : length s.gpr ≡ 16) where
-  pub capture-length : length (capture_of s m) ≡ length m + 156
+  pub capture_length : length (capture_of s m) ≡ length m + 156
   unfolding capture_of
-  capture-length = simp length-append (omega (arith, state_bytes s g, bytes_length (trailer_of (length m))))
+  capture_length = simp length-append (omega (arith, state_bytes s g, bytes_length (trailer_of (length m))))
 
   -- memory, state and trailer stored one after the other
-  pub put-capture : (out : List ℕ) → length m + 156 ≤ length out
+  pub put_capture : (out : List ℕ) → length m + 156 ≤ length out
       → sets (sets (sets out 0 m) (length m) (word_bytes (words_of s))) (length m + 144) (word_bytes (trailer_of (length m))) ≡ capture_of s m ++ drop (length m + 156) out
   unfolding capture_of
-  put-capture out h =
+  put_capture out h =
       let q : length m + 144 ≡ 0 + length (m ++ word_bytes (words_of s)) = simp length-append (omega (arith, state_bytes s g)) in
-      let z : 0 + length (m ++ word_bytes (words_of s) ++ word_bytes (trailer_of (length m))) ≡ length m + 156 = omega (arith, capture-length) in
+      let z : 0 + length (m ++ word_bytes (words_of s) ++ word_bytes (trailer_of (length m))) ≡ length m + 156 = omega (arith, capture_length) in
       rw (
         sets_at m (word_bytes (words_of s)) out 0 (length m) (omega arith),
         sets_at (m ++ word_bytes (words_of s)) (word_bytes (trailer_of (length m))) out 0 (length m + 144) q,

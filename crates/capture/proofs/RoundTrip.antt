@@ -19,7 +19,7 @@ use Rattle.machine.specs.Register.{refusal_of, start_refusal}
 use Rattle.capture.specs.Words.{Below, words_at, word_bytes, words_of}
 use Rattle.capture.specs.Read.{size_of, state_in, formed_of, read_refusal, read_of, part_of}
 use Rattle.capture.specs.Write.{trailer_of, capture_of, write_refusal, written_of, out_of}
-use Rattle.capture.proofs.Laws.{state_words, state_bytes, capture-length}
+use Rattle.capture.proofs.Laws.{state_words, state_bytes, capture_length}
 use Rattle.capture.proofs.Checks.{Formed, read_accepts, write_accepts}
 use Rattle.memory.proofs.Laws.{sized_bounds}
 use Rattle.capture.proofs.Codec.{words_in, words_of_bytes, bytes_of_words, words_length, state_of_words_lem, words_of_state}
@@ -59,72 +59,72 @@ trailer_below m h (suc (suc (suc k))) = lit≤ tt
 
 -- a capture of a state that is accepted, and of memory that the board has
 module _ (p : Profile) (s : State) (m : List ℕ) (g : length s.gpr ≡ 16) (w : Below (2 ^ 32) (words_of s)) (sized : sized_of (length m) ≡ true) where
-  capture-size : size_of (capture_of s m) ≡ length m
-  capture-size = omega (arith, capture-length s m g)
+  capture_size : size_of (capture_of s m) ≡ length m
+  capture_size = omega (arith, capture_length s m g)
 
-  capture-words : words_at 36 (capture_of s m) (length m) ≡ words_of s
+  capture_words : words_at 36 (capture_of s m) (length m) ≡ words_of s
   unfolding capture_of
-  capture-words =
+  capture_words =
       rw append_assoc
       (words_in 36 (length m) m (word_bytes (words_of s) ++ word_bytes (trailer_of (length m))) refl
       ∙ (rw (state_words s g) at (words_of_bytes (words_of s) (word_bytes (trailer_of (length m))) w)))
 
-  capture-trailer : words_at 3 (capture_of s m) (length m + 144) ≡ trailer_of (length m)
+  capture_trailer : words_at 3 (capture_of s m) (length m + 144) ≡ trailer_of (length m)
   unfolding capture_of
-  capture-trailer =
+  capture_trailer =
       let n : length m + 144 ≡ length (m ++ word_bytes (words_of s)) = simp length-append (omega (arith, state_bytes s g)) in
       let l : length m < 2 ^ 32 = omega (arith, sized_bounds (length m) sized) in
       words_in 3 (length m + 144) (m ++ word_bytes (words_of s)) (word_bytes (trailer_of (length m))) n
       ∙ (rw append-nil at (words_of_bytes (trailer_of (length m)) [] (trailer_below (length m) l)))
 
-  capture-formed : formed_of (capture_of s m) ≡ true
-  capture-formed = trailer_formed (capture_of s m) (length m) (capture-length s m g) (sized_bounds (length m) sized).0 capture-trailer
+  capture_formed : formed_of (capture_of s m) ≡ true
+  capture_formed = trailer_formed (capture_of s m) (length m) (capture_length s m g) (sized_bounds (length m) sized).0 capture_trailer
 
-  capture-state : state_in (capture_of s m) ≡ s
+  capture_state : state_in (capture_of s m) ≡ s
   unfolding state_in
-  capture-state = rw (capture-size, capture-words) (state_of_words_lem s g)
+  capture_state = rw (capture_size, capture_words) (state_of_words_lem s g)
 
-  capture-part : take (size_of (capture_of s m)) (capture_of s m) ≡ m
+  capture_part : take (size_of (capture_of s m)) (capture_of s m) ≡ m
   unfolding capture_of
-  capture-part = rw (capture-size, append_assoc) (take_at m _ (length m) refl)
+  capture_part = rw (capture_size, append_assoc) (take_at m _ (length m) refl)
 
-  capture-refusal : refusal_of p s ≡ Refusal.None → read_refusal p (capture_of s m) ≡ Refusal.None
+  capture_refusal : refusal_of p s ≡ Refusal.None → read_refusal p (capture_of s m) ≡ Refusal.None
   unfolding read_refusal start_refusal
-  capture-refusal r = rw (capture-formed, capture-size, sized, capture-state, r)
+  capture_refusal r = rw (capture_formed, capture_size, sized, capture_state, r)
 
-  pub capture-reads : refusal_of p s ≡ Refusal.None → (read_of p (capture_of s m) ≡ record { refusal = Refusal.None; state = s }) × (part_of p (capture_of s m) ≡ m)
+  pub capture_reads : refusal_of p s ≡ Refusal.None → (read_of p (capture_of s m) ≡ record { refusal = Refusal.None; state = s }) × (part_of p (capture_of s m) ≡ m)
   unfolding read_of part_of
-  capture-reads r = (rw (capture-refusal r, capture-state), rw (capture-refusal r, capture-part))
+  capture_reads r = (rw (capture_refusal r, capture_state), rw (capture_refusal r, capture_part))
 
 -- the first M + 156 bytes of the output, if nothing is refused
 written_is : (p : Profile) (s : State) (m out : List ℕ) → write_refusal p s (length m) (length out) ≡ Refusal.None → length s.gpr ≡ 16 → take (length m + 156) (out_of p s m out) ≡ capture_of s m
 unfolding out_of
-written_is p s m out ok g = rw ok (take_at (capture_of s m) (drop (length m + 156) out) (length m + 156) (capture-length s m g))
+written_is p s m out ok g = rw ok (take_at (capture_of s m) (drop (length m + 156) out) (length m + 156) (capture_length s m g))
 
 -- what was written reads back as the same state and the same memory
 pub written_reads : (p : Profile) (s : State) (m out : List ℕ) → write_refusal p s (length m) (length out) ≡ Refusal.None → length s.gpr ≡ 16 → Below (2 ^ 32) (words_of s)
     → (read_of p (take (length m + 156) (out_of p s m out)) ≡ record { refusal = Refusal.None; state = s }) × (part_of p (take (length m + 156) (out_of p s m out)) ≡ m)
 written_reads p s m out ok g w =
     let a = write_accepts p s (length m) (length out) (ap accepts_of ok) in
-    rw (written_is p s m out ok g) (capture-reads p s m g w a.sized a.state)
+    rw (written_is p s m out ok g) (capture_reads p s m g w a.sized a.state)
 
 part_length : (f : List ℕ) → length (take (size_of f) f) ≡ size_of f
 part_length f = simp length-take (omega arith)
 
 -- a capture that is not refused
 module _ (p : Profile) (f : List ℕ) (ok : read_refusal p f ≡ Refusal.None) where
-  read-state : (read_of p f).state ≡ state_in f
+  read_state : (read_of p f).state ≡ state_in f
   unfolding read_of
-  read-state = rw ok
+  read_state = rw ok
 
-  read-part : part_of p f ≡ take (size_of f) f
+  read_part : part_of p f ≡ take (size_of f) f
   unfolding part_of
-  read-part = rw ok
+  read_part = rw ok
 
   -- its three parts, written one after the other, are the file
-  read-capture : Below 256 f → capture_of (state_in f) (take (size_of f) f) ≡ f
+  read_capture : Below 256 f → capture_of (state_in f) (take (size_of f) f) ≡ f
   unfolding capture_of state_in
-  read-capture b =
+  read_capture b =
       let a = read_accepts p f (ap accepts_of ok) in
       rw (
         part_length f,
@@ -137,9 +137,9 @@ module _ (p : Profile) (f : List ℕ) (ok : read_refusal p f ≡ Refusal.None) w
       )
       (take_all (size_of f + 144 + 12) f (omega arith))
 
-  read-accepted : (n : ℕ) → length f ≤ n → write_refusal p (state_in f) (size_of f) n ≡ Refusal.None
+  read_accepted : (n : ℕ) → length f ≤ n → write_refusal p (state_in f) (size_of f) n ≡ Refusal.None
   unfolding write_refusal start_refusal
-  read-accepted n h =
+  read_accepted n h =
       let a = read_accepts p f (ap accepts_of ok) in
       rw (a.sized, a.state, le-leb (size_of f + 156) n (omega arith))
 
@@ -149,5 +149,5 @@ pub read_writes : (p : Profile) (f out : List ℕ) → read_refusal p f ≡ Refu
 unfolding written_of out_of
 read_writes p f out ok b n =
     let e : size_of f + 156 ≡ length f = omega (arith, read_accepts p f (ap accepts_of ok)) in
-    rw (read-state p f ok, read-part p f ok, part_length f, read-accepted p f ok (length out) (omega arith), e)
-    (refl, rw (read-capture p f ok b, drop_of_length-le out {i = length f} (omega arith)) (append-nil f))
+    rw (read_state p f ok, read_part p f ok, part_length f, read_accepted p f ok (length out) (omega arith), e)
+    (refl, rw (read_capture p f ok b, drop_of_length-le out {i = length f} (omega arith)) (append-nil f))

@@ -8,7 +8,7 @@ use machine::refusal::{Refusal, accepts};
 use machine::state::State;
 use memory::load::word_at;
 
-#[derive(Drop)]
+#[derive(Clone, Copy)]
 pub struct Read {
     pub refusal: Refusal,
     pub state: State,

@@ -8,7 +8,7 @@ use insn::profile::Profile;
 use machine::refusal::{Refusal, accepts};
 use machine::state::State;
 
-#[derive(Drop)]
+#[derive(Clone, Copy)]
 pub struct Written {
     pub refusal: Refusal,
     pub bytes: usize,

@@ -11,19 +11,19 @@ use Rattle.srecord.specs.Record.{lines_of}
 use Rattle.srecord.specs.File.{start, refused_at, verdict, placed, read_of, memory_of}
 
 module _ (m f : List ℕ) where
-  pub read-unsized : sized_of (length m) ≡ false → (refused_at 0 Refusal.Memory ≡ read_of (length m) f) × (m ≡ memory_of m f)
+  pub read_unsized : sized_of (length m) ≡ false → (refused_at 0 Refusal.Memory ≡ read_of (length m) f) × (m ≡ memory_of m f)
   unfolding read_of memory_of
-  read-unsized h = (rw h, rw h)
+  read_unsized h = (rw h, rw h)
 
   module _ (h : sized_of (length m) ≡ true) where
     pub read_sized : verdict (length m) start 1 (lines_of f) ≡ read_of (length m) f
     unfolding read_of
     read_sized = rw h
 
-    pub read-refused : accepts_of (verdict (length m) start 1 (lines_of f)).refusal ≡ false → m ≡ memory_of m f
+    pub read_refused : accepts_of (verdict (length m) start 1 (lines_of f)).refusal ≡ false → m ≡ memory_of m f
     unfolding read_of memory_of
-    read-refused e = rw (h, e)
+    read_refused e = rw (h, e)
 
-    pub read-good : accepts_of (verdict (length m) start 1 (lines_of f)).refusal ≡ true → placed m (lines_of f) ≡ memory_of m f
+    pub read_good : accepts_of (verdict (length m) start 1 (lines_of f)).refusal ≡ true → placed m (lines_of f) ≡ memory_of m f
     unfolding read_of memory_of
-    read-good e = rw (h, e)
+    read_good e = rw (h, e)

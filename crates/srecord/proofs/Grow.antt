@@ -15,7 +15,7 @@ use Rattle.machine.specs.declared.refusal.Refusal.{Refusal}
 use Rattle.srecord.specs.Record.{Line, malformed, holds, is_data, lines_of, record_of}
 use Rattle.srecord.specs.File.{Seen, start, places, any_in, data_refusal, record_refusal, line_refusal, after_line, verdict, put, placed, read_of, memory_of}
 use Rattle.srecord.proofs.Formed.{decide}
-use Rattle.srecord.proofs.Judge.{rec-data, record_fits}
+use Rattle.srecord.proofs.Judge.{rec_data, record_fits}
 use Rattle.srecord.proofs.Meaning.{verdict_cons, put_length, read_lines, read_sized}
 
 fits_grow : (m n a c : ℕ) → m ≤ n → (eqb c 0 || leb (a + c) m) ≡ true → (eqb c 0 || leb (a + c) n) ≡ true
@@ -44,8 +44,8 @@ record_grow m n t a c s l h =
     (λ e. rw e)
     (λ e. decide (is_data t)
     (λ d.
-    let f = (rec-data m t a c s e d).0 in
-    (rec-data n t a c s e d).0 ∙ (data_grow m n t a c s l (λ o. h (f ∙ o)) ∙ sym f))
+    let f = (rec_data m t a c s e d).0 in
+    (rec_data n t a c s e d).0 ∙ (data_grow m n t a c s l (λ o. h (f ∙ o)) ∙ sym f))
     (λ d. rw (e, d)))
 
 line_grow : (m n : ℕ) (s : Seen) (l : Line) → m ≤ n → (line_refusal m s l ≡ Refusal.Outside → ⊥) → line_refusal n s l ≡ line_refusal m s l

@@ -38,44 +38,44 @@ nor_false false true h = refl
 nor_false false false h = never h
 
 module _ (m t a n : ℕ) (s : Seen) where
-  pub data-mixed : (not (eqb s.kind 0) && not (eqb s.kind t)) ≡ true → Refusal.Record ≡ data_refusal m s t a n
+  pub data_mixed : (not (eqb s.kind 0) && not (eqb s.kind t)) ≡ true → Refusal.Record ≡ data_refusal m s t a n
   unfolding data_refusal
-  data-mixed h = rw (nor_true (eqb s.kind 0) (eqb s.kind t) h)
+  data_mixed h = rw (nor_true (eqb s.kind 0) (eqb s.kind t) h)
 
   module _ (h : (not (eqb s.kind 0) && not (eqb s.kind t)) ≡ false) where
-    pub data-none : n ≡ 0 → Refusal.None ≡ data_refusal m s t a n
+    pub data_none : n ≡ 0 → Refusal.None ≡ data_refusal m s t a n
     unfolding data_refusal places any_in
-    data-none e = rw (nor_false (eqb s.kind 0) (eqb s.kind t) h, e)
+    data_none e = rw (nor_false (eqb s.kind 0) (eqb s.kind t) h, e)
 
-    pub data-outside : (n ≡ 0 → ⊥) → m < a + n → Refusal.Outside ≡ data_refusal m s t a n
+    pub data_outside : (n ≡ 0 → ⊥) → m < a + n → Refusal.Outside ≡ data_refusal m s t a n
     unfolding data_refusal
-    data-outside e l = rw (nor_false (eqb s.kind 0) (eqb s.kind t) h, ne_eqb n 0 e, lt-leb (a + n) m l)
+    data_outside e l = rw (nor_false (eqb s.kind 0) (eqb s.kind t) h, ne_eqb n 0 e, lt-leb (a + n) m l)
 
-    pub data-inside : (n ≡ 0 → ⊥) → a + n ≤ m → data_refusal m s t a n ≡ unless (not (any_in (places a n) s.named)) Refusal.Twice
+    pub data_inside : (n ≡ 0 → ⊥) → a + n ≤ m → data_refusal m s t a n ≡ unless (not (any_in (places a n) s.named)) Refusal.Twice
     unfolding data_refusal
-    data-inside e l = rw (nor_false (eqb s.kind 0) (eqb s.kind t) h, ne_eqb n 0 e, le-leb (a + n) m l)
+    data_inside e l = rw (nor_false (eqb s.kind 0) (eqb s.kind t) h, ne_eqb n 0 e, le-leb (a + n) m l)
 
-  pub rec-ended : s.ended ≡ true → Refusal.Record ≡ record_refusal m s t a n
+  pub rec_ended : s.ended ≡ true → Refusal.Record ≡ record_refusal m s t a n
   unfolding record_refusal
-  rec-ended e = rw e
+  rec_ended e = rw e
 
   module _ (e : s.ended ≡ false) where
-    pub rec-data : is_data t ≡ true → (record_refusal m s t a n ≡ data_refusal m s t a n) × ((after s t a n).named ≡ places a n ++ s.named)
+    pub rec_data : is_data t ≡ true → (record_refusal m s t a n ≡ data_refusal m s t a n) × ((after s t a n).named ≡ places a n ++ s.named)
     unfolding record_refusal after
-    rec-data d = (rw (e, d), rw d)
+    rec_data d = (rw (e, d), rw d)
 
     module _ (d : is_data t ≡ false) where
-      pub rec-end : 7 ≤ t → (record_refusal m s t a n ≡ end_refusal s t) × ((after s t a n).named ≡ s.named)
+      pub rec_end : 7 ≤ t → (record_refusal m s t a n ≡ end_refusal s t) × ((after s t a n).named ≡ s.named)
       unfolding record_refusal after
-      rec-end l = (rw (e, d, le-leb 7 t l), rw d)
+      rec_end l = (rw (e, d, le-leb 7 t l), rw d)
 
-      pub rec-count : t < 7 → t ≡ 5 → (record_refusal m s t a n ≡ count_refusal s a) × ((after s t a n).named ≡ s.named)
+      pub rec_count : t < 7 → t ≡ 5 → (record_refusal m s t a n ≡ count_refusal s a) × ((after s t a n).named ≡ s.named)
       unfolding record_refusal after
-      rec-count l c = (rw (e, d, lt-leb 7 t l, eq-eqb t 5 c), rw d)
+      rec_count l c = (rw (e, d, lt-leb 7 t l, eq-eqb t 5 c), rw d)
 
-      pub rec-other : t < 7 → (t ≡ 5 → ⊥) → (Refusal.None ≡ record_refusal m s t a n) × ((after s t a n).named ≡ s.named)
+      pub rec_other : t < 7 → (t ≡ 5 → ⊥) → (Refusal.None ≡ record_refusal m s t a n) × ((after s t a n).named ≡ s.named)
       unfolding record_refusal after
-      rec-other l c = (rw (e, d, lt-leb 7 t l, ne_eqb t 5 c), rw d)
+      rec_other l c = (rw (e, d, lt-leb 7 t l, ne_eqb t 5 c), rw d)
 
 -- data that are not refused lie inside, and were not named before
 pub record Fits (m a n : ℕ) (s : Seen) : Type 0 where
@@ -101,7 +101,7 @@ record_going m t a n s h =
     not-true s.ended (unless_accepts (not s.ended) Refusal.Record refl x.0)
 
 pub record_fits : (m t a n : ℕ) (s : Seen) → accepts_of (record_refusal m s t a n) ≡ true → is_data t ≡ true → Fits m a n s
-record_fits m t a n s h d = data_fits m t a n s (rw (rec-data m t a n s (record_going m t a n s h) d).0 at h)
+record_fits m t a n s h d = data_fits m t a n s (rw (rec_data m t a n s (record_going m t a n s h) d).0 at h)
 
 -- what stands at a place, formed or not
 pub record_formed : (i : ℕ) (f : List ℕ) → formed_at f i ≡ true → record_at f i ≡ holds (kind_at f i) (address_at f i) (bytes_at (size_at f i) f (data_at f i))
@@ -140,13 +140,13 @@ found_bad f i h = bad_cases f i (formed_at f i) h
 
 -- the lines from place i on, of which the first is line k
 module _ (m i k : ℕ) (s : Seen) (f : List ℕ) where
-  pub verdict-end : length f ≤ i → verdict m s k (lines_of (drop i f)) ≡ pick s.ended good (refused_at k Refusal.End)
+  pub verdict_end : length f ≤ i → verdict m s k (lines_of (drop i f)) ≡ pick s.ended good (refused_at k Refusal.End)
   unfolding lines_of verdict
-  verdict-end h = rw (drop_of_length-le f {i = i} h)
+  verdict_end h = rw (drop_of_length-le f {i = i} h)
 
-  pub verdict-bad : i < length f → formed_at f i ≡ false → verdict m s k (lines_of (drop i f)) ≡ refused_at k Refusal.Record
+  pub verdict_bad : i < length f → formed_at f i ≡ false → verdict m s k (lines_of (drop i f)) ≡ refused_at k Refusal.Record
   unfolding verdict line_refusal
-  verdict-bad h b =
+  verdict_bad h b =
       let q = first_at i f h in
       rw (q.lines, q.same, record_bad i f b)
 
@@ -154,22 +154,22 @@ module _ (m i k : ℕ) (s : Seen) (f : List ℕ) where
     refusal : Refusal
     refusal = record_refusal m s (kind_at f i) (address_at f i) (size_at f i)
 
-    verdict-step : verdict m s k (lines_of (drop i f))
+    verdict_step : verdict m s k (lines_of (drop i f))
         ≡ pick (accepts_of refusal) (verdict m (after s (kind_at f i) (address_at f i) (size_at f i)) (k + 1) (lines_of (drop (next_at f i) f))) (refused_at k refusal)
     unfolding verdict line_refusal after_line refusal
-    verdict-step =
+    verdict_step =
         let q = first_at i f h in
         rw (q.lines, q.same, record_formed i f g, q.next g, bytes_length (size_at f i) (data_at f i) f)
 
-    pub verdict-stop : accepts_of (record_refusal m s (kind_at f i) (address_at f i) (size_at f i)) ≡ false
+    pub verdict_stop : accepts_of (record_refusal m s (kind_at f i) (address_at f i) (size_at f i)) ≡ false
         → verdict m s k (lines_of (drop i f)) ≡ refused_at k (record_refusal m s (kind_at f i) (address_at f i) (size_at f i))
     unfolding refusal
-    verdict-stop n = rw (verdict-step, n)
+    verdict_stop n = rw (verdict_step, n)
 
-    pub verdict-goes : accepts_of (record_refusal m s (kind_at f i) (address_at f i) (size_at f i)) ≡ true
+    pub verdict_goes : accepts_of (record_refusal m s (kind_at f i) (address_at f i) (size_at f i)) ≡ true
         → verdict m s k (lines_of (drop i f)) ≡ verdict m (after s (kind_at f i) (address_at f i) (size_at f i)) (k + 1) (lines_of (drop (next_at f i) f))
     unfolding refusal
-    verdict-goes e = rw (verdict-step, e)
+    verdict_goes e = rw (verdict_step, e)
 
 pair_le : (p : ℕ) (f : List ℕ) → pair_at f p ≤ 256
 unfolding pair_at joined
@@ -224,9 +224,9 @@ verdict_good m i k s f h z =
     decide (formed_at f i)
     (λ g. (
       g,
-      decide (accepts_of (record_refusal m s (kind_at f i) (address_at f i) (size_at f i))) (λ e. e) (λ e. rw (verdict-stop m i k s f h g e) at z),
+      decide (accepts_of (record_refusal m s (kind_at f i) (address_at f i) (size_at f i))) (λ e. e) (λ e. rw (verdict_stop m i k s f h g e) at z),
     ))
-    (λ g. never (sym z ∙ ap (λ (v : Verdict). accepts_of v.refusal) (verdict-bad m i k s f h g)))
+    (λ g. never (sym z ∙ ap (λ (v : Verdict). accepts_of v.refusal) (verdict_bad m i k s f h g)))
 
 placed_cons : (m l : List ℕ) (ls : List (List ℕ)) → placed m (l ∷ ls) ≡ placed (put m (record_of l)) ls
 unfolding placed

@@ -2,7 +2,7 @@
 use Prim.Native.Nat.{ℕ, zero, suc, ◌+◌, ◌*◌, ◌-◌, ◌≤◌, ◌<◌}
 use native.Mathlib.Omega.{arith}
 use native.Mathlib.Nat.{add_assoc, add-zero}
-use mathlib.Core.Bool.{true, not}
+use mathlib.Core.Bool.{true}
 use mathlib.Core.Logic.{◌⊎◌, inl, inr, ⊎_elim}
 use mathlib.Core.Path.{◌≡◌, refl, ap, sym, ◌∙◌}
 use mathlib.Core.List.{List, [], ◌∷◌}
@@ -12,7 +12,7 @@ use lib.Seq.{get_or-drop, get_or-take, take_all, drop-drop}
 use borrow.Author.Tests.{ltb-true, eqb-true, eqb-false, eq-eqb}
 use Rattle.memory.specs.Access.{pick}
 use Rattle.srecord.specs.Hex.{letter_of, digit_of, joined, pair_at, bytes_at, all_bytes}
-use Rattle.srecord.specs.Record.{holds, lines_of, width_of, ends_at, headed_at, formed_at, held_at, record_at, record_of}
+use Rattle.srecord.specs.Record.{lines_of, width_of, ends_at, headed_at, formed_at, held_at, record_at, record_of}
 use Rattle.srecord.specs.Found.{line_end, next_at}
 use Rattle.word.proofs.Truth.{and_true}
 use Rattle.word.proofs.Laws.{split}
@@ -113,55 +113,55 @@ module _ (x y : List ℕ) (j : ℕ) (feed : get_or x j 0 ≡ 10) (agree : (m : �
   feed' : get_or y j 0 ≡ 10
   feed' = sym (agree j (omega arith)) ∙ feed
 
-  pair-agree : (m : ℕ) → m ≤ j → pair_at x m ≡ pair_at y m
+  pair_agree : (m : ℕ) → m ≤ j → pair_at x m ≡ pair_at y m
   unfolding pair_at
-  pair-agree m l =
+  pair_agree m l =
       split m j
       (λ s. rw (agree m l, agree (m + 1) (omega arith)))
       (λ s. pair_feed m j x feed l (omega arith) ∙ sym (pair_feed m j y feed' l (omega arith)))
 
-  bytes-agree : (n m : ℕ) → m + 2 * n ≤ suc j → bytes_at n x m ≡ bytes_at n y m
+  bytes_agree : (n m : ℕ) → m + 2 * n ≤ suc j → bytes_at n x m ≡ bytes_at n y m
   unfolding bytes_at
-  bytes-agree zero m l = refl
-  bytes-agree (suc n) m l = rw (pair-agree m (omega arith), bytes-agree n (m + 2) (omega arith))
+  bytes_agree zero m l = refl
+  bytes_agree (suc n) m l = rw (pair_agree m (omega arith), bytes_agree n (m + 2) (omega arith))
 
-  all-agree : (n m : ℕ) → m ≤ j → all_bytes (bytes_at n x m) ≡ all_bytes (bytes_at n y m)
+  all_agree : (n m : ℕ) → m ≤ j → all_bytes (bytes_at n x m) ≡ all_bytes (bytes_at n y m)
   unfolding bytes_at all_bytes
-  all-agree zero m l = refl
-  all-agree (suc n) m l =
+  all_agree zero m l = refl
+  all_agree (suc n) m l =
       split (m + 1) j
-      (λ s. rw (pair-agree m l, all-agree n (m + 2) (omega arith)))
+      (λ s. rw (pair_agree m l, all_agree n (m + 2) (omega arith)))
       (λ s. rw (pair_feed m j x feed l s, pair_feed m j y feed' l s))
 
   -- spelt bytes stand before the line feed
-  all-before : (n m : ℕ) → m ≤ j → all_bytes (bytes_at n x m) ≡ true → m + 2 * n ≤ j
+  all_before : (n m : ℕ) → m ≤ j → all_bytes (bytes_at n x m) ≡ true → m + 2 * n ≤ j
   unfolding bytes_at all_bytes
-  all-before zero m l h = omega arith
-  all-before (suc n) m l h =
+  all_before zero m l h = omega arith
+  all_before (suc n) m l h =
       let q = and_true (ltb (pair_at x m) 256) (all_bytes (bytes_at n x (m + 2))) h in
       split (m + 1) j
-      (λ s. omega (arith, all-before n (m + 2) (omega arith) q.1))
+      (λ s. omega (arith, all_before n (m + 2) (omega arith) q.1))
       (λ s. absurd (omega (arith, ltb-true (pair_at x m) 256 q.0, pair_feed m j x feed l s)))
 
-  ends-agree : (m : ℕ) → m ≤ j → ends_at x m ≡ ends_at y m
+  ends_agree : (m : ℕ) → m ≤ j → ends_at x m ≡ ends_at y m
   unfolding ends_at
-  ends-agree m l =
+  ends_agree m l =
       split m j
       (λ s. rw (agree m l, agree (m + 1) (omega arith)))
       (λ s. let e : m ≡ j = omega arith in rw (e, feed, feed'))
 
-  headed-agree : headed_at x 0 ≡ headed_at y 0
+  headed_agree : headed_at x 0 ≡ headed_at y 0
   unfolding headed_at
-  headed-agree =
+  headed_agree =
       split 1 j
-      (λ s. rw (agree 0 (omega arith), agree 1 (omega arith), pair-agree 2 s))
+      (λ s. rw (agree 0 (omega arith), agree 1 (omega arith), pair_agree 2 s))
       (λ s. split 0 j
       (λ z. let e : j ≡ 1 = omega arith in rw (rw e at feed, rw e at feed', and_no, and_no))
       (λ z. let e : j ≡ 0 = omega arith in rw (rw e at feed, rw e at feed')))
 
   -- a head stands before the line feed
-  headed-before : headed_at x 0 ≡ true → 4 ≤ j
-  headed-before h =
+  headed_before : headed_at x 0 ≡ true → 4 ≤ j
+  headed_before h =
       let q = headed_is 0 x h in
       split 3 j (λ s. s)
       (λ s. absurd
@@ -172,39 +172,39 @@ module _ (x y : List ℕ) (j : ℕ) (feed : get_or x j 0 ≡ 10) (agree : (m : �
       (λ z. let e : j ≡ 0 = omega arith in omega (arith, q.letter, rw e at feed)))))
 
   -- the parts of a formed line stand before the line feed
-  formed-before : formed_at x 0 ≡ true → 4 + 2 * pair_at x 2 ≤ j
-  formed-before h =
+  formed_before : formed_at x 0 ≡ true → 4 + 2 * pair_at x 2 ≤ j
+  formed_before h =
       let q = formed_is 0 x h in
-      all-before (pair_at x 2) 4 (headed-before (headed_yes 0 x h)) q.bytes
+      all_before (pair_at x 2) 4 (headed_before (headed_yes 0 x h)) q.bytes
 
-  formed-agree : formed_at x 0 ≡ formed_at y 0
+  formed_agree : formed_at x 0 ≡ formed_at y 0
   unfolding formed_at
-  formed-agree =
+  formed_agree =
       decide (headed_at x 0)
       (λ h.
-      let b : 4 ≤ j = headed-before h in
-      let p : pair_at x 2 ≡ pair_at y 2 = pair-agree 2 (omega arith) in
+      let b : 4 ≤ j = headed_before h in
+      let p : pair_at x 2 ≡ pair_at y 2 = pair_agree 2 (omega arith) in
       decide (all_bytes (bytes_at (pair_at x 2) x 4))
       (λ a.
-      let k : 4 + 2 * pair_at x 2 ≤ j = all-before (pair_at x 2) 4 b a in
-      let e : bytes_at (pair_at x 2) x 4 ≡ bytes_at (pair_at y 2) y 4 = bytes-agree (pair_at x 2) 4 (omega arith) ∙ rw p in
-      rw (← headed-agree, e, ends-agree (4 + 2 * pair_at x 2) k, p))
-      (λ a. rw (← headed-agree, ← p, ← (all-agree (pair_at x 2) 4 b), a, and_no)))
-      (λ h. rw (← headed-agree, h))
+      let k : 4 + 2 * pair_at x 2 ≤ j = all_before (pair_at x 2) 4 b a in
+      let e : bytes_at (pair_at x 2) x 4 ≡ bytes_at (pair_at y 2) y 4 = bytes_agree (pair_at x 2) 4 (omega arith) ∙ rw p in
+      rw (← headed_agree, e, ends_agree (4 + 2 * pair_at x 2) k, p))
+      (λ a. rw (← headed_agree, ← p, ← (all_agree (pair_at x 2) 4 b), a, and_no)))
+      (λ h. rw (← headed_agree, h))
 
-  record-agree : record_at x 0 ≡ record_at y 0
+  record_agree : record_at x 0 ≡ record_at y 0
   unfolding record_at held_at
-  record-agree =
+  record_agree =
       decide (formed_at x 0)
       (λ h.
-      let b : 4 + 2 * pair_at x 2 ≤ j = formed-before h in
+      let b : 4 + 2 * pair_at x 2 ≤ j = formed_before h in
       let s = formed_stands 0 x h in
-      let p : pair_at x 2 ≡ pair_at y 2 = pair-agree 2 (omega arith) in
+      let p : pair_at x 2 ≡ pair_at y 2 = pair_agree 2 (omega arith) in
       let t : get_or x 1 0 ≡ get_or y 1 0 = agree 1 (omega arith) in
-      let u = bytes-agree (width_of (get_or x 1 0 - 48)) 4 (omega (arith, s.room.fits)) in
-      let v = bytes-agree (pair_at x 2 - 1 - width_of (get_or x 1 0 - 48)) (4 + 2 * width_of (get_or x 1 0 - 48)) (omega (arith, s.room.fits)) in
-      rw (← formed-agree, h, u, v, p, t))
-      (λ h. rw (← formed-agree, h))
+      let u = bytes_agree (width_of (get_or x 1 0 - 48)) 4 (omega (arith, s.room.fits)) in
+      let v = bytes_agree (pair_at x 2 - 1 - width_of (get_or x 1 0 - 48)) (4 + 2 * width_of (get_or x 1 0 - 48)) (omega (arith, s.room.fits)) in
+      rw (← formed_agree, h, u, v, p, t))
+      (λ h. rw (← formed_agree, h))
 
 -- a line is the record that what it begins holds
 line_record : (x : List ℕ) → record_of (take (line_len x) x) ≡ record_at x 0
@@ -212,7 +212,7 @@ line_record x =
     ⊎_elim
     (λ l. rw (l, take_all (length x) x (omega arith)))
     (λ q. sym
-    (record-agree x (take (line_len x) x) q.at q.feed
+    (record_agree x (take (line_len x) x) q.at q.feed
     (λ m l. sym (get_or-take (line_len x) x m 0 (omega (arith, q.len))))))
     (len_cases x)
 
@@ -251,7 +251,7 @@ formed_len x h =
     let b = (end_bounds x p).0 in
     ⊎_elim
     (λ l. omega arith)
-    (λ r. omega (arith, r.len, end_before x p r.at q.ends r.feed (formed-before x x r.at r.feed (λ m l. refl) h)))
+    (λ r. omega (arith, r.len, end_before x p r.at q.ends r.feed (formed_before x x r.at r.feed (λ m l. refl) h)))
     (len_cases x)
 
 -- the first line from place i on

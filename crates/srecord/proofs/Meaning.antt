@@ -2,7 +2,7 @@
 -- stays. Assumes nothing.
 use Prim.Native.Nat.{ℕ, zero, suc, ◌+◌, ◌-◌, ◌≤◌, ◌<◌}
 use native.Mathlib.Omega.{arith}
-use mathlib.Core.Bool.{Bool, true, false, not, ◌&&◌, ◌||◌}
+use mathlib.Core.Bool.{Bool, true, false, ◌&&◌, ◌||◌}
 use mathlib.Core.Path.{◌≡◌, refl, sym, ◌∙◌}
 use mathlib.Core.List.{List, [], ◌∷◌}
 use lib.Dec.{ltb, leb, eqb}
@@ -232,13 +232,13 @@ read_sized m f h = decide (sized_of m) (λ e. e) (λ e. never (sym (rw e at h)))
 
 -- of a file that is accepted
 module _ (m f : List ℕ) (ok : accepts_of (read_of (length m) f).refusal ≡ true) where
-  memory-is : memory_of m f ≡ placed m (lines_of f)
+  memory_is : memory_of m f ≡ placed m (lines_of f)
   unfolding memory_of
-  memory-is = rw ok
+  memory_is = rw ok
 
   -- the bytes of its records stand at their addresses
-  pub named-stored : (i t a j : ℕ) (d : List ℕ) → Has f i t a d → j < length d → get_or (memory_of m f) (a + j) 0 ≡ get_or d j 0
-  named-stored i t a j d h l = rw memory-is (by_lines (lines_of f) h.line h.record' (read_lines (length m) f ok))
+  pub named_stored : (i t a j : ℕ) (d : List ℕ) → Has f i t a d → j < length d → get_or (memory_of m f) (a + j) 0 ≡ get_or d j 0
+  named_stored i t a j d h l = rw memory_is (by_lines (lines_of f) h.line h.record' (read_lines (length m) f ok))
     where
       by_lines : (ls : List (List ℕ)) → i < length ls → record_of (get_or ls i []) ≡ holds t a d → accepts_of (verdict (length m) start 1 ls).refusal ≡ true
           → get_or (placed m ls) (a + j) 0 ≡ get_or d j 0
@@ -246,21 +246,21 @@ module _ (m f : List ℕ) (ok : accepts_of (read_of (length m) f).refusal ≡ tr
       by_lines (y ∷ ys) b e v = stored t a j d h.data' l i 1 y ys m start v b e
 
   -- and every other byte stays
-  pub unnamed-stays : (x : ℕ) → ((i t a : ℕ) (d : List ℕ) → Has f i t a d → a ≤ x → x < a + length d → ⊥) → get_or (memory_of m f) x 0 ≡ get_or m x 0
-  unnamed-stays x h =
-      rw memory-is
+  pub unnamed_stays : (x : ℕ) → ((i t a : ℕ) (d : List ℕ) → Has f i t a d → a ≤ x → x < a + length d → ⊥) → get_or (memory_of m f) x 0 ≡ get_or m x 0
+  unnamed_stays x h =
+      rw memory_is
       (unnamed_stay (lines_of f) m x (none_named (lines_of f) x (λ i t a d b e g. h i t a d (record { line = b; record' = e; data' = g }))))
 
   -- they lie in memory
-  pub named-inside : (i t a j : ℕ) (d : List ℕ) → Has f i t a d → j < length d → a + j < length m
-  named-inside i t a j d h l =
+  pub named_inside : (i t a j : ℕ) (d : List ℕ) → Has f i t a d → j < length d → a + j < length m
+  named_inside i t a j d h l =
       let z : a + length d ≤ length m = inside i 1 (length m) t a d (lines_of f) start (read_lines (length m) f ok) h.line h.record' h.data' (omega arith) in
       omega arith
 
   -- and no two records name one of them
-  pub named-once : (x i t a : ℕ) (d : List ℕ) (i' t' a' : ℕ) (d' : List ℕ) → Has f i t a d → Has f i' t' a' d'
+  pub named_once : (x i t a : ℕ) (d : List ℕ) (i' t' a' : ℕ) (d' : List ℕ) → Has f i t a d → Has f i' t' a' d'
       → a ≤ x → x < a + length d → a' ≤ x → x < a' + length d' → i ≡ i'
-  named-once x i t a d i' t' a' d' h h' p q p' q' =
+  named_once x i t a d i' t' a' d' h h' p q p' q' =
       split i i'
       (λ l. absurd (apart i t a d i' t' a' d' h h' p q p' q' l))
       (λ l. split i' i

@@ -24,9 +24,9 @@ use Rattle.word.proofs.Truth.{and_true}
 use Rattle.word.proofs.Below.{same_at}
 use Rattle.srecord.proofs.Formed.{decide}
 use Rattle.srecord.proofs.Lines.{pair_shift, bytes_shift}
-use Rattle.srecord.proofs.Judge.{verdict-goes, placed_more}
+use Rattle.srecord.proofs.Judge.{verdict_goes, placed_more}
 use Rattle.srecord.proofs.Text.{hexes_append, hexes_length, sum_append, file_length_lem}
-use Rattle.srecord.proofs.Answer.{read_sized, read-good}
+use Rattle.srecord.proofs.Answer.{read_sized, read_good}
 
 -- a digit that was written is read
 digit_back : (v : ℕ) → v < 16 → digit_of (hex_digit v) ≡ v
@@ -70,103 +70,103 @@ module _ (t n a₁ a₂ a₃ a₄ : ℕ) (d zs : List ℕ) (w : width_of t ≡ 4
   X : List ℕ
   X = 83 ∷ (48 + t) ∷ hex_digit (n / 16) ∷ hex_digit (n % 16) ∷ (hexes (a₁ ∷ a₂ ∷ a₃ ∷ a₄ ∷ (d ++ (check ∷ []))) ++ (10 ∷ zs))
 
-  text-is : text_of t (n ∷ a₁ ∷ a₂ ∷ a₃ ∷ a₄ ∷ d) ++ zs ≡ X
+  text_is : text_of t (n ∷ a₁ ∷ a₂ ∷ a₃ ∷ a₄ ∷ d) ++ zs ≡ X
   unfolding text_of X check hexes
-  text-is = rw (hexes_append d (check_of (n ∷ a₁ ∷ a₂ ∷ a₃ ∷ a₄ ∷ d) ∷ []), append_assoc)
+  text_is = rw (hexes_append d (check_of (n ∷ a₁ ∷ a₂ ∷ a₃ ∷ a₄ ∷ d) ∷ []), append_assoc)
 
-  check-lt : check < 256
+  check_lt : check < 256
   unfolding check check_of
-  check-lt = omega arith
+  check_lt = omega arith
 
-  count-is : pair_at X 2 ≡ n
+  count_is : pair_at X 2 ≡ n
   unfolding X
-  count-is = sym (pair_shift 2 0 X) ∙ pair_back n _ small
+  count_is = sym (pair_shift 2 0 X) ∙ pair_back n _ small
 
   whole_length : length (a₁ ∷ a₂ ∷ a₃ ∷ a₄ ∷ (d ++ (check ∷ []))) ≡ n
   whole_length = omega (arith, length-append d (check ∷ []))
 
-  whole-all : all_bytes (a₁ ∷ a₂ ∷ a₃ ∷ a₄ ∷ (d ++ (check ∷ []))) ≡ true
-  whole-all = all_append (a₁ ∷ a₂ ∷ a₃ ∷ a₄ ∷ d) check ok check-lt
+  whole_all : all_bytes (a₁ ∷ a₂ ∷ a₃ ∷ a₄ ∷ (d ++ (check ∷ []))) ≡ true
+  whole_all = all_append (a₁ ∷ a₂ ∷ a₃ ∷ a₄ ∷ d) check ok check_lt
 
-  bytes-is : bytes_at n X 4 ≡ a₁ ∷ a₂ ∷ a₃ ∷ a₄ ∷ (d ++ (check ∷ []))
+  bytes_is : bytes_at n X 4 ≡ a₁ ∷ a₂ ∷ a₃ ∷ a₄ ∷ (d ++ (check ∷ []))
   unfolding X
-  bytes-is =
+  bytes_is =
       sym (bytes_shift n 4 0 X)
-      ∙ (rw whole_length at (bytes_back (a₁ ∷ a₂ ∷ a₃ ∷ a₄ ∷ (d ++ (check ∷ []))) (10 ∷ zs) whole-all))
+      ∙ (rw whole_length at (bytes_back (a₁ ∷ a₂ ∷ a₃ ∷ a₄ ∷ (d ++ (check ∷ []))) (10 ∷ zs) whole_all))
 
-  rest-is : drop (4 + 2 * n) X ≡ 10 ∷ zs
+  rest_is : drop (4 + 2 * n) X ≡ 10 ∷ zs
   unfolding X
-  rest-is =
+  rest_is =
       sym (drop-drop (2 * n) 4 X)
       ∙ drop_at (hexes (a₁ ∷ a₂ ∷ a₃ ∷ a₄ ∷ (d ++ (check ∷ [])))) (10 ∷ zs) (2 * n) (hexes_length (a₁ ∷ a₂ ∷ a₃ ∷ a₄ ∷ (d ++ (check ∷ []))) ∙ ap (λ (k : ℕ). 2 * k) whole_length)
 
-  feed-is : get_or X (4 + 2 * n) 0 ≡ 10
-  feed-is =
+  feed_is : get_or X (4 + 2 * n) 0 ≡ 10
+  feed_is =
       let z : 4 + 2 * n + 0 ≡ 4 + 2 * n = omega arith in
-      sym (ap (λ (k : ℕ). get_or X k 0) z) ∙ (sym (get_or-drop (4 + 2 * n) X 0 0) ∙ ap (λ (l : List ℕ). get_or l 0 0) rest-is)
+      sym (ap (λ (k : ℕ). get_or X k 0) z) ∙ (sym (get_or-drop (4 + 2 * n) X 0 0) ∙ ap (λ (l : List ℕ). get_or l 0 0) rest_is)
 
   ends_is : ends_at X (4 + 2 * n) ≡ true
   unfolding ends_at
-  ends_is = rw feed-is
+  ends_is = rw feed_is
 
   sum_is : (n + sum_of (a₁ ∷ a₂ ∷ a₃ ∷ a₄ ∷ (d ++ (check ∷ [])))) % 256 ≡ 255
   unfolding sum_of check check_of
   sum_is = omega (arith, sum_append d (check ∷ []))
 
-  kind-is : get_or X 1 0 - 48 ≡ t
+  kind_is : get_or X 1 0 - 48 ≡ t
   unfolding X
-  kind-is = omega arith
+  kind_is = omega arith
 
   headed_is : headed_at X 0 ≡ true
   unfolding headed_at X
   headed_is =
       let k : 48 + t - 48 ≡ t = omega arith in
-      rw (count-is, le-leb 48 (48 + t) (omega arith), lt-ltb n 256 small, k, room)
+      rw (count_is, le-leb 48 (48 + t) (omega arith), lt-ltb n 256 small, k, room)
 
   formed_is : formed_at X 0 ≡ true
   unfolding formed_at
-  formed_is = rw (headed_is, count-is, bytes-is, whole-all, ends_is, eq-eqb ((n + sum_of (a₁ ∷ a₂ ∷ a₃ ∷ a₄ ∷ (d ++ (check ∷ [])))) % 256) 255 sum_is)
+  formed_is = rw (headed_is, count_is, bytes_is, whole_all, ends_is, eq-eqb ((n + sum_of (a₁ ∷ a₂ ∷ a₃ ∷ a₄ ∷ (d ++ (check ∷ [])))) % 256) 255 sum_is)
 
   address_is : address_at X 0 ≡ number_from 0 (a₁ ∷ a₂ ∷ a₃ ∷ a₄ ∷ [])
   unfolding address_at
-  address_is = rw (kind-is, w, bytes_front 4 n 4 X (omega arith), bytes-is)
+  address_is = rw (kind_is, w, bytes_front 4 n 4 X (omega arith), bytes_is)
 
   size_is : size_at X 0 ≡ length d
   unfolding size_at
-  size_is = rw (kind-is, w, count-is) (omega arith)
+  size_is = rw (kind_is, w, count_is) (omega arith)
 
-  data-all : all_bytes (d ++ (check ∷ [])) ≡ true
-  data-all = all_append d check (all_tail a₄ d (all_tail a₃ (a₄ ∷ d) (all_tail a₂ (a₃ ∷ a₄ ∷ d) (all_tail a₁ (a₂ ∷ a₃ ∷ a₄ ∷ d) ok)))) check-lt
+  data_all : all_bytes (d ++ (check ∷ [])) ≡ true
+  data_all = all_append d check (all_tail a₄ d (all_tail a₃ (a₄ ∷ d) (all_tail a₂ (a₃ ∷ a₄ ∷ d) (all_tail a₁ (a₂ ∷ a₃ ∷ a₄ ∷ d) ok)))) check_lt
 
   data_is : bytes_at (size_at X 0) X (data_at X 0) ≡ d
   unfolding data_at X hexes
   data_is =
       let l : length d ≤ length (d ++ (check ∷ [])) = omega (arith, length-append d (check ∷ [])) in
-      rw (size_is, kind-is, w)
+      rw (size_is, kind_is, w)
       (sym (bytes_shift (length d) 12 0 X)
       ∙ (bytes_front (length d) (length (d ++ (check ∷ []))) 0 (hexes (d ++ (check ∷ [])) ++ (10 ∷ zs)) l
-      ∙ (ap (take (length d)) (bytes_back (d ++ (check ∷ [])) (10 ∷ zs) data-all) ∙ take_at d (check ∷ []) (length d) refl)))
+      ∙ (ap (take (length d)) (bytes_back (d ++ (check ∷ [])) (10 ∷ zs) data_all) ∙ take_at d (check ∷ []) (length d) refl)))
 
   next_is : next_at X 0 ≡ 4 + 2 * n + 1
   unfolding next_at line_end
-  next_is = rw (count-is, feed-is)
+  next_is = rw (count_is, feed_is)
 
   after_is : drop (next_at X 0) X ≡ zs
-  after_is = rw (next_is, ← (drop-drop 1 (4 + 2 * n) X), rest-is)
+  after_is = rw (next_is, ← (drop-drop 1 (4 + 2 * n) X), rest_is)
 
   long : 0 < length X
   unfolding X
   long = omega arith
 
   -- the line is judged, and the others follow
-  pub text-verdict : (m k : ℕ) (s : Seen) → accepts_of (record_refusal m s t (number_from 0 (a₁ ∷ a₂ ∷ a₃ ∷ a₄ ∷ [])) (length d)) ≡ true
+  pub text_verdict : (m k : ℕ) (s : Seen) → accepts_of (record_refusal m s t (number_from 0 (a₁ ∷ a₂ ∷ a₃ ∷ a₄ ∷ [])) (length d)) ≡ true
       → verdict m s k (lines_of (text_of t (n ∷ a₁ ∷ a₂ ∷ a₃ ∷ a₄ ∷ d) ++ zs)) ≡ verdict m (after s t (number_from 0 (a₁ ∷ a₂ ∷ a₃ ∷ a₄ ∷ [])) (length d)) (k + 1) (lines_of zs)
-  text-verdict m k s h =
-      let r : accepts_of (record_refusal m s (kind_at X 0) (address_at X 0) (size_at X 0)) ≡ true = rw (kind-is, address_is, size_is) h in
-      rw text-is (verdict-goes m 0 k s X long formed_is r ∙ rw (kind-is, address_is, size_is, after_is))
+  text_verdict m k s h =
+      let r : accepts_of (record_refusal m s (kind_at X 0) (address_at X 0) (size_at X 0)) ≡ true = rw (kind_is, address_is, size_is) h in
+      rw text_is (verdict_goes m 0 k s X long formed_is r ∙ rw (kind_is, address_is, size_is, after_is))
 
-  pub text-placed : (m : List ℕ) → placed m (lines_of (text_of t (n ∷ a₁ ∷ a₂ ∷ a₃ ∷ a₄ ∷ d) ++ zs)) ≡ placed (pick (is_data t) (sets m (number_from 0 (a₁ ∷ a₂ ∷ a₃ ∷ a₄ ∷ [])) d) m) (lines_of zs)
-  text-placed m = rw text-is (placed_more 0 m X long formed_is ∙ rw (data_is, kind-is, address_is, after_is))
+  pub text_placed : (m : List ℕ) → placed m (lines_of (text_of t (n ∷ a₁ ∷ a₂ ∷ a₃ ∷ a₄ ∷ d) ++ zs)) ≡ placed (pick (is_data t) (sets m (number_from 0 (a₁ ∷ a₂ ∷ a₃ ∷ a₄ ∷ [])) d) m) (lines_of zs)
+  text_placed m = rw text_is (placed_more 0 m X long formed_is ∙ rw (data_is, kind_is, address_is, after_is))
 
 address_back : (a : ℕ) → a < 2 ^ 32 → number_from 0 (a / 2 ^ 24 % 256 ∷ a / 2 ^ 16 % 256 ∷ a / 2 ^ 8 % 256 ∷ a % 256 ∷ []) ≡ a
 unfolding number_from
@@ -210,23 +210,23 @@ width_7 = refl
 
 -- the block's line, and the end's, in front of the others
 module _ (a : ℕ) (m zs : List ℕ) (low : a < 2 ^ 32) (inside : a + 32 ≤ length m) (bytes : (k : ℕ) → get_or m k 0 < 256) where
-  block-len : length (take 32 (drop a m)) ≡ 32
-  block-len = length-take-le 32 (drop a m) (simp length-drop (omega arith))
+  block_len : length (take 32 (drop a m)) ≡ 32
+  block_len = length-take-le 32 (drop a m) (simp length-drop (omega arith))
 
-  block-five : length (take 32 (drop a m)) + 5 ≡ 37
-  block-five = omega (arith, block-len)
+  block_five : length (take 32 (drop a m)) + 5 ≡ 37
+  block_five = omega (arith, block_len)
 
-  block-verdict : (n k : ℕ) (s : Seen) → accepts_of (record_refusal n s 3 a 32) ≡ true → verdict n s k (lines_of (block_text a m ++ zs)) ≡ verdict n (after s 3 a 32) (k + 1) (lines_of zs)
+  block_verdict : (n k : ℕ) (s : Seen) → accepts_of (record_refusal n s 3 a 32) ≡ true → verdict n s k (lines_of (block_text a m ++ zs)) ≡ verdict n (after s 3 a 32) (k + 1) (lines_of zs)
   unfolding block_text bytes_of
-  block-verdict n k s h =
-      rw (address_back a low, block-len) at
-      (text-verdict 3 37 (a / 2 ^ 24 % 256) (a / 2 ^ 16 % 256) (a / 2 ^ 8 % 256) (a % 256) (take 32 (drop a m)) zs width_3 room_3 block-five (lit≤ tt) (block_all a m bytes) n k s (rw (address_back a low, block-len) h))
+  block_verdict n k s h =
+      rw (address_back a low, block_len) at
+      (text_verdict 3 37 (a / 2 ^ 24 % 256) (a / 2 ^ 16 % 256) (a / 2 ^ 8 % 256) (a % 256) (take 32 (drop a m)) zs width_3 room_3 block_five (lit≤ tt) (block_all a m bytes) n k s (rw (address_back a low, block_len) h))
 
   block_placed : (x : List ℕ) → placed x (lines_of (block_text a m ++ zs)) ≡ placed (sets x a (take 32 (drop a m))) (lines_of zs)
   unfolding block_text bytes_of
   block_placed x =
       rw (address_back a low) at
-      (text-placed 3 37 (a / 2 ^ 24 % 256) (a / 2 ^ 16 % 256) (a / 2 ^ 8 % 256) (a % 256) (take 32 (drop a m)) zs width_3 room_3 block-five (lit≤ tt) (block_all a m bytes) x)
+      (text_placed 3 37 (a / 2 ^ 24 % 256) (a / 2 ^ 16 % 256) (a / 2 ^ 8 % 256) (a % 256) (take 32 (drop a m)) zs width_3 room_3 block_five (lit≤ tt) (block_all a m bytes) x)
 
 zero_all : all_bytes (0 ∷ 0 ∷ 0 ∷ 0 ∷ []) ≡ true
 unfolding all_bytes
@@ -234,11 +234,11 @@ zero_all = refl
 
 end_verdict : (n k : ℕ) (s : Seen) → accepts_of (record_refusal n s 7 (number_from 0 (0 ∷ 0 ∷ 0 ∷ 0 ∷ [])) 0) ≡ true → verdict n s k (lines_of (end_text ++ [])) ≡ good
 unfolding end_text bytes_of verdict lines_of after
-end_verdict n k s h = text-verdict 7 5 0 0 0 0 [] [] width_7 room_7 refl (lit≤ tt) zero_all n k s h
+end_verdict n k s h = text_verdict 7 5 0 0 0 0 [] [] width_7 room_7 refl (lit≤ tt) zero_all n k s h
 
 end_placed : (x : List ℕ) → placed x (lines_of (end_text ++ [])) ≡ x
 unfolding end_text bytes_of placed lines_of
-end_placed x = text-placed 7 5 0 0 0 0 [] [] width_7 room_7 refl (lit≤ tt) zero_all x
+end_placed x = text_placed 7 5 0 0 0 0 [] [] width_7 room_7 refl (lit≤ tt) zero_all x
 
 -- what has been seen when the blocks before a have been read
 record Reading (s : Seen) (a : ℕ) : Type 0 where
@@ -275,32 +275,32 @@ unfolding record_refusal end_refusal
 end_fine n a v s r = rw (r.going, end_kind s.kind r.kind)
 
 module _ (m : List ℕ) (size : length m ≤ 1048576) (bytes : (k : ℕ) → get_or m k 0 < 256) where
-  blocks-verdict : (n a k : ℕ) (s : Seen) → a + 32 * n ≡ length m → Reading s a → verdict (length m) s k (lines_of (blocks n a m ++ end_text)) ≡ good
+  blocks_verdict : (n a k : ℕ) (s : Seen) → a + 32 * n ≡ length m → Reading s a → verdict (length m) s k (lines_of (blocks n a m ++ end_text)) ≡ good
   unfolding blocks
-  blocks-verdict zero a k s e r = rw (← (append-nil end_text)) (end_verdict (length m) k s (end_fine (length m) a _ s r))
-  blocks-verdict (suc n) a k s e r =
+  blocks_verdict zero a k s e r = rw (← (append-nil end_text)) (end_verdict (length m) k s (end_fine (length m) a _ s r))
+  blocks_verdict (suc n) a k s e r =
       rw (append_assoc (block_text a m) (blocks n (a + 32) m) end_text)
-      (block-verdict a m (blocks n (a + 32) m ++ end_text) (omega arith) (omega arith) bytes (length m) k s (block_fine (length m) a s r (omega arith))
-      ∙ blocks-verdict n (a + 32) (k + 1) (after s 3 a 32) (omega arith) (block_after a s r))
+      (block_verdict a m (blocks n (a + 32) m ++ end_text) (omega arith) (omega arith) bytes (length m) k s (block_fine (length m) a s r (omega arith))
+      ∙ blocks_verdict n (a + 32) (k + 1) (after s 3 a 32) (omega arith) (block_after a s r))
 
-  take-block : (a : ℕ) (x : List ℕ) → a + 32 ≤ length m → length x ≡ length m → take a x ≡ take a m → take (a + 32) (sets x a (take 32 (drop a m))) ≡ take (a + 32) m
-  take-block a x h l e =
+  take_block : (a : ℕ) (x : List ℕ) → a + 32 ≤ length m → length x ≡ length m → take a x ≡ take a m → take (a + 32) (sets x a (take 32 (drop a m))) ≡ take (a + 32) m
+  take_block a x h l e =
       let b : length (take 32 (drop a m)) ≡ 32 = length-take-le 32 (drop a m) (simp length-drop (omega arith)) in
       let t : length (take a x) ≡ a = length-take-le a x (omega arith) in
       let q : length (take a x ++ take 32 (drop a m)) ≡ a + 32 = length-append (take a x) (take 32 (drop a m)) ∙ rw (b, t) in
       rw (sets-eq (take 32 (drop a m)) x a (omega arith))
       (take_at (take a x ++ take 32 (drop a m)) (drop (a + length (take 32 (drop a m))) x) (a + 32) q ∙ (rw e (sym (take-add a 32 m))))
 
-  blocks-placed : (n a : ℕ) (x : List ℕ) → a + 32 * n ≡ length m → length x ≡ length m → take a x ≡ take a m → placed x (lines_of (blocks n a m ++ end_text)) ≡ m
+  blocks_placed : (n a : ℕ) (x : List ℕ) → a + 32 * n ≡ length m → length x ≡ length m → take a x ≡ take a m → placed x (lines_of (blocks n a m ++ end_text)) ≡ m
   unfolding blocks
-  blocks-placed zero a x e l t =
+  blocks_placed zero a x e l t =
       let f : length x ≤ a = omega arith in
       let g : length m ≤ a = omega arith in
       (rw (append-nil end_text) at (end_placed x)) ∙ (sym (take_all a x f) ∙ (t ∙ take_all a m g))
-  blocks-placed (suc n) a x e l t =
+  blocks_placed (suc n) a x e l t =
       rw (append_assoc (block_text a m) (blocks n (a + 32) m) end_text)
       (block_placed a m (blocks n (a + 32) m ++ end_text) (omega arith) (omega arith) bytes x
-      ∙ blocks-placed n (a + 32) (sets x a (take 32 (drop a m))) (omega arith) (length-sets x a (take 32 (drop a m)) ∙ l) (take-block a x (omega arith) l t))
+      ∙ blocks_placed n (a + 32) (sets x a (take 32 (drop a m))) (omega arith) (length-sets x a (take 32 (drop a m)) ∙ l) (take_block a x (omega arith) l t))
 
 start_reading : Reading start 0
 unfolding is_in
@@ -314,9 +314,9 @@ file_reads m x h b l =
     let z = sized_bounds (length m) h in
     let e : 0 + 32 * (length m / 32) ≡ length m = omega (arith, sized_whole (length m) h) in
     let f = blocks (length m / 32) 0 m ++ end_text in
-    let v : verdict (length x) start 1 (lines_of f) ≡ good = rw l (blocks-verdict m z.1 b (length m / 32) 0 1 start e start_reading) in (
+    let v : verdict (length x) start 1 (lines_of f) ≡ good = rw l (blocks_verdict m z.1 b (length m / 32) 0 1 start e start_reading) in (
       sym (read_sized x f (rw l h)) ∙ v,
-      sym (read-good x f (rw l h) (rw v refl)) ∙ blocks-placed m z.1 b (length m / 32) 0 x e l refl,
+      sym (read_good x f (rw l h) (rw v refl)) ∙ blocks_placed m z.1 b (length m / 32) 0 x e l refl,
     )
 
 -- and so is what the writer leaves in an output that takes it

@@ -122,16 +122,16 @@ file_left m out h =
 
 -- the writer's answer, a way through the code each
 module _ (m out : List ℕ) where
-  pub write-unsized : sized_of (length m) ≡ false → (record { refusal = Refusal.Memory; bytes = 0 } ≡ written_of m out) × (out ≡ out_of m out)
+  pub write_unsized : sized_of (length m) ≡ false → (record { refusal = Refusal.Memory; bytes = 0 } ≡ written_of m out) × (out ≡ out_of m out)
   unfolding write_refusal written_of out_of
-  write-unsized h = (rw h, rw h)
+  write_unsized h = (rw h, rw h)
 
   module _ (h : sized_of (length m) ≡ true) where
-    pub write-short : length out < 79 * (length m / 32) + 15 → (record { refusal = Refusal.Output; bytes = 0 } ≡ written_of m out) × (out ≡ out_of m out)
+    pub write_short : length out < 79 * (length m / 32) + 15 → (record { refusal = Refusal.Output; bytes = 0 } ≡ written_of m out) × (out ≡ out_of m out)
     unfolding write_refusal written_of out_of
-    write-short l = let e = lt-leb (79 * (length m / 32) + 15) (length out) l in (rw (h, e), rw (h, e))
+    write_short l = let e = lt-leb (79 * (length m / 32) + 15) (length out) l in (rw (h, e), rw (h, e))
 
-    pub write-whole : 79 * (length m / 32) + 15 ≤ length out
+    pub write_whole : 79 * (length m / 32) + 15 ≤ length out
         → (record { refusal = Refusal.None; bytes = 79 * (length m / 32) + 15 } ≡ written_of m out) × (file_of m ++ drop (79 * (length m / 32) + 15) out ≡ out_of m out)
     unfolding write_refusal written_of out_of
-    write-whole l = let e = le-leb (79 * (length m / 32) + 15) (length out) l in (rw (h, e), rw (h, e))
+    write_whole l = let e = le-leb (79 * (length m / 32) + 15) (length out) l in (rw (h, e), rw (h, e))

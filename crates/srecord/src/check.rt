@@ -10,14 +10,14 @@ use crate::named::name;
 use machine::refusal::{Refusal, accepts};
 
 // The refusal of a file, and the number of the line it is given for.
-#[derive(Drop)]
+#[derive(Clone, Copy)]
 pub struct Verdict {
     pub refusal: Refusal,
     pub line: usize,
 }
 
 // What the lines so far were, but for the bytes they named.
-#[derive(Drop)]
+#[derive(Clone, Copy)]
 pub struct Sofar {
     pub kind: u32,
     pub count: usize,

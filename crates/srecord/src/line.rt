@@ -6,7 +6,7 @@ ghost use Rattle.srecord.specs.Found.{line_end, found_of};
 use crate::hex::{number_at, pair_at, sum_at};
 
 // A record's type, its address, where its data stand and how many bytes they are, and where the next line begins.
-#[derive(Drop)]
+#[derive(Clone, Copy)]
 pub enum Found {
     Malformed,
     Record {

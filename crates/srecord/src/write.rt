@@ -8,7 +8,7 @@ use machine::refusal::Refusal;
 use memory::access::sized;
 use memory::store::put_word;
 
-#[derive(Drop)]
+#[derive(Clone, Copy)]
 pub struct Written {
     pub refusal: Refusal,
     pub bytes: usize,
