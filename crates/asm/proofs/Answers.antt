@@ -1,11 +1,11 @@
 -- What is answered is what the grammar, the values and the instructions say; and it is the only such answer.
-use Prim.Native.Nat.{ℕ, zero, suc, ◌+◌, ◌-◌, ◌≤◌, ◌<◌}
+use Prim.Native.Nat.{ℕ, suc, ◌+◌, ◌≤◌, ◌<◌}
 use native.Mathlib.Omega.{arith}
 use native.Mathlib.Nat.{zero-add}
 use mathlib.Core.Path.{◌≡◌, refl, sym, ap, ◌∙◌, subst}
-use mathlib.Core.Bool.{Bool, true, false, cond}
-use mathlib.Core.Logic.{◌⊎◌, inl, inr, ⊎_elim}
-use mathlib.Core.List.{List, [], ◌∷◌, ◌++◌, append-nil, append_assoc}
+use mathlib.Core.Bool.{Bool, true, false}
+use mathlib.Core.Logic.{⊎_elim}
+use mathlib.Core.List.{List, [], ◌∷◌, ◌++◌, append-nil}
 use lib.ListN.{length, take, drop, length-append, take-append-drop}
 use lib.Seq.{take_at, length-take-le, take-append-le}
 use Rattle.expr.proofs.Cases.{split_lt, clash}
@@ -20,20 +20,20 @@ use Rattle.insn.specs.declared.instr.Decoded.{Decoded}
 use Rattle.insn.proofs.Round.{written_read_on}
 use Rattle.syntax.specs.Syntax.{Item, shape_of, written, plain, spelled_on}
 use Rattle.syntax.specs.Line.{Part, Line, texts, Begins, Has, Opens}
-use Rattle.syntax.specs.Worth.{First, none, at, fields_from, first_off, codes, all_codes}
-use Rattle.asm.specs.Answer.{Spells, fields_of, Stops, Answer, accepted, stopped as answer-stopped, outside, invalid}
+use Rattle.syntax.specs.Worth.{none, at, fields_from, first_off, codes, all_codes}
+use Rattle.asm.specs.Answer.{Spells, fields_of, Stops, Answer, accepted, stopped as answer_stopped, outside, invalid}
 use Rattle.syntax.specs.LineOf.{line_of}
-use Rattle.syntax.specs.Take.{Result, all, stopped, take_line, well_made}
+use Rattle.syntax.specs.Take.{all, stopped, take_line, well_made}
 use Rattle.syntax.specs.Rows.{samples, sample_of, row_of}
-use Rattle.syntax.specs.Inside.{pattern_at, operand_count, done_of, matches, rows_from, no_operands, gathered, WithRows}
-use Rattle.asm.specs.Inside.{checked_of, codes_in, filled, refused_with, assembled_of, encoded_of, settled_of, Placed}
+use Rattle.syntax.specs.Inside.{pattern_at, operand_count, matches, no_operands, gathered, WithRows}
+use Rattle.asm.specs.Inside.{checked_of, codes_in, filled, refused_with, assembled_of, settled_of, Placed}
 use Rattle.syntax.specs.declared.field.Field.{Field}
 use Rattle.syntax.specs.declared.line.Operands.{Operands}
 use Rattle.syntax.specs.declared.table.Job.{Job}
 use Rattle.syntax.specs.declared.table.Done.{Done}
 use Rattle.asm.specs.declared.assemble.Check.{Check}
 use Rattle.asm.specs.declared.assemble.Assembled.{Assembled}
-use Rattle.syntax.proofs.Lines.{LineRead, Parsed, line_read, line_complete, line_stuck, line_unique, sooner, Some, some_line}
+use Rattle.syntax.proofs.Lines.{LineRead, Parsed, line_read, line_complete, line_stuck, line_unique, sooner, some_line}
 use Rattle.syntax.proofs.Rows.{Right, right_at, Stopped, Reached, Ran, ran, Listed, found, bad_same, not_printed}
 use Rattle.syntax.proofs.Spelled.{spelled_42x, plain_spelled, spelled_valid, on_valid}
 use Rattle.syntax.proofs.Samples.{sample_at_lem}
@@ -91,7 +91,7 @@ only_row core c s n parts b m l t i ps v k u =
     let r : InRow core i c = in_row core i ps c s v k u in
     let q : r.row ≡ n = one_row core c r.row n ps parts r.listed b (subst (λ (x : List Item). Line x ps) r.shape k) l (u ∙ sym t) in
     let h : shape_of i ≡ shape_of (sample_at core c n) = r.shape ∙ ap (λ (x : ℕ). shape_of (sample_at core c x)) q in
-    let a : sample_of i ≡ sample_at core c n = sym (sample_at_lem core i some v) ∙ (ap (λ (x : ℕ). sample_at core x (row_of i).row) r.here ∙ ap (λ (x : ℕ). sample_at core c x) (r.where-it-is ∙ q)) in
+    let a : sample_of i ≡ sample_at core c n = sym (sample_at_lem core i some v) ∙ (ap (λ (x : ℕ). sample_at core x (row_of i).row) r.here ∙ ap (λ (x : ℕ). sample_at core c x) (r.where_it_is ∙ q)) in
     record { sample = a; shape = h; reading = line_unique (shape_of (sample_at core c n)) ps parts m (subst (λ (x : List Item). Line x ps) h k) l (u ∙ sym t) }
 
 -- ---- a line that was found
@@ -308,19 +308,19 @@ at_same j k e = cc
 -- every line has one answer of a core
 pub answer_once : (core : Profile) (s : List ℕ) (q r : Assembled) → Answer core s q → Answer core s r → q ≡ r
 answer_once core s q r (accepted i l p v) (accepted j m x w) = ap (λ (z : Instr). record { refusal = 0; column = 0; word = word_of z }) (spelt_once s i j p x (on_valid core i v) (on_valid core j w))
-answer_once core s q r (accepted i l p v) (answer-stopped k x) = let z : ⊥ = x.none l (has p (plain_spelled core i p.rest v)) in absurd z
+answer_once core s q r (accepted i l p v) (answer_stopped k x) = let z : ⊥ = x.none l (has p (plain_spelled core i p.rest v)) in absurd z
 answer_once core s q r (accepted i l p v) (outside k m h e) = at_none k (sym e ∙ spelt_none core s i p (plain_spelled core i p.rest v) h)
 answer_once core s q r (accepted i l p v) (invalid m h e n) = let z : ⊥ = n i p v in absurd z
-answer_once core s q r (answer-stopped j x) (accepted i l p v) = let z : ⊥ = x.none l (has p (plain_spelled core i p.rest v)) in absurd z
-answer_once core s q r (answer-stopped j x) (answer-stopped k y) = ap (refused_with 11) (column_once core s j k x y)
-answer_once core s q r (answer-stopped j x) (outside k m h e) = let z : ⊥ = x.none m h in absurd z
-answer_once core s q r (answer-stopped j x) (invalid m h e n) = let z : ⊥ = x.none m h in absurd z
+answer_once core s q r (answer_stopped j x) (accepted i l p v) = let z : ⊥ = x.none l (has p (plain_spelled core i p.rest v)) in absurd z
+answer_once core s q r (answer_stopped j x) (answer_stopped k y) = ap (refused_with 11) (column_once core s j k x y)
+answer_once core s q r (answer_stopped j x) (outside k m h e) = let z : ⊥ = x.none m h in absurd z
+answer_once core s q r (answer_stopped j x) (invalid m h e n) = let z : ⊥ = x.none m h in absurd z
 answer_once core s q r (outside j l h e) (accepted i m p v) = at_none j (sym e ∙ spelt_none core s i p (plain_spelled core i p.rest v) h)
-answer_once core s q r (outside j l h e) (answer-stopped k x) = let z : ⊥ = x.none l h in absurd z
+answer_once core s q r (outside j l h e) (answer_stopped k x) = let z : ⊥ = x.none l h in absurd z
 answer_once core s q r (outside j l h e) (outside k m g d) = ap (refused_with 12) (at_same j k (sym e ∙ (ap first_off (fields_once core s h g) ∙ d)))
 answer_once core s q r (outside j l h e) (invalid m g d n) = at_none j (sym e ∙ (ap first_off (fields_once core s h g) ∙ d))
 answer_once core s q r (invalid l h e n) (accepted i m p v) = let z : ⊥ = n i p v in absurd z
-answer_once core s q r (invalid l h e n) (answer-stopped k x) = let z : ⊥ = x.none l h in absurd z
+answer_once core s q r (invalid l h e n) (answer_stopped k x) = let z : ⊥ = x.none l h in absurd z
 answer_once core s q r (invalid l h e n) (outside k m g d) = at_none k (sym d ∙ (ap first_off (fields_once core s g h) ∙ e))
 answer_once core s q r (invalid l h e n) (invalid m g d u) = refl
 

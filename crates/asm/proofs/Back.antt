@@ -11,14 +11,14 @@ use Rattle.word.proofs.Truth.{and_left, and_right}
 use Rattle.insn.specs.Valid.{valid_of}
 use Rattle.insn.specs.declared.profile.Profile.{Profile}
 use Rattle.insn.specs.declared.instr.Instr.{Instr}
-use Rattle.expr.specs.Grammar.{Expr, Prod, Fac, pick, is_digit, all_digits, textE, InE, in-only, in_one, in-num, in-minus}
-use Rattle.expr.specs.Evaluate.{negated, digit_of, digits_value, evalE}
+use Rattle.expr.specs.Grammar.{Expr, Prod, Fac, pick, is_digit, all_digits, text_e, InE, in_only, in_one, in_num, in_minus}
+use Rattle.expr.specs.Evaluate.{negated, digit_of, digits_value, eval_e}
 use Rattle.expr.specs.declared.Value.{Value}
 use Rattle.expr.proofs.Cases.{split_lt, split_eq}
 use Rattle.expr.proofs.Signs.{neg_pos}
-use Rattle.syntax.specs.Syntax.{Range, signed, unsigned, target, frame, Item, reg, zreg, num, Piece, letter, gpr, gprOr0, number, letters, commas, spelt, written, item_of, items_of, shape_of}
+use Rattle.syntax.specs.Syntax.{Range, signed, unsigned, target, frame, Item, reg, zreg, num, Piece, letter, gpr, gpr_or0, number, letters, commas, spelt, written, item_of, items_of, shape_of}
 use Rattle.syntax.specs.Text.{bytes}
-use Rattle.syntax.specs.Line.{Part, byte, register, zero as lone, value, text_of, texts, Fits, fits_lit, fits-reg, fits-zreg, fits-zero, fits-num, Line, line-end, line_more}
+use Rattle.syntax.specs.Line.{Part, byte, register, zero as lone, value, text_of, texts, Fits, fits_lit, fits_reg, fits_zreg, fits_zero, fits_num, Line, line_end, line_more}
 use Rattle.syntax.specs.Worth.{signed_code, unsigned_code, target_code, frame_code, code_of, register_field, field_of, kept, fields_from, codes, all_codes}
 use Rattle.syntax.specs.LineOf.{decimal, signed_text, number_text, register_text, base_text, piece_text, piece_texts, line_of}
 use Rattle.syntax.specs.Rows.{samples, samples_a, samples_b, samples_c, samples_d, samples_e, samples_l, samples_m, samples_n, samples_o, samples_r, samples_s, samples_t, samples_w, samples_x, row_of}
@@ -88,27 +88,27 @@ decimal_digits (suc k) n h =
 record Tree (t : List ℕ) (v : Value) : Type 0 where
   tree : Expr
   within : InE 16 tree
-  text : textE tree ≡ t
-  worth : (at : ℕ) → evalE tree at ≡ v
+  text : text_e tree ≡ t
+  worth : (at : ℕ) → eval_e tree at ≡ v
 
 plus_tree : (n : ℕ) → n < 10 ^ 8 → Tree (decimal 8 n) (Value.Plus n)
-unfolding textE evalE
+unfolding text_e eval_e
 plus_tree n h =
     let r = decimal_digits 7 n h in
     record {
       tree = Expr.only (Prod.one (Fac.num false r.first r.rest));
-      within = in-only (in_one (in-num false _ _ (rw r.is at r.all)));
+      within = in_only (in_one (in_num false _ _ (rw r.is at r.all)));
       text = sym r.is;
       worth = λ at. rw (← r.is, r.worth, lt-ltb n 0x8000_0000 (omega arith));
     }
 
 minus_tree : (n : ℕ) → n < 10 ^ 8 → 0 < n → Tree (45 ∷ decimal 8 n) (Value.Minus (n - 1))
-unfolding textE evalE negated
+unfolding text_e eval_e negated
 minus_tree n h l =
     let r = decimal_digits 7 n h in
     record {
       tree = Expr.only (Prod.one (Fac.minus (Fac.num false r.first r.rest)));
-      within = in-only (in_one (in-minus (in-num false _ _ (rw r.is at r.all))));
+      within = in_only (in_one (in_minus (in_num false _ _ (rw r.is at r.all))));
       text = ap (λ (s : List ℕ). 45 ∷ s) (sym r.is);
       worth = λ at. rw (← r.is, r.worth, lt-ltb n 0x8000_0000 (omega arith), neg_pos n (omega arith), lt-ltb (n - 1) 0x8000_0000 (omega arith));
     }
@@ -122,7 +122,7 @@ record Operand (x : Item) (t : List ℕ) (n : ℕ) : Type 0 where
 
 by_tree : (r : Range) (t : List ℕ) (v : Value) (n : ℕ) → Tree t v → code_of r v ≡ Field.Code n → Operand (num r) t n
 unfolding text_of
-by_tree r t v n u e = record { part = value u.tree; fits = fits-num u.within; text = u.text; field = λ at. ap (code_of r) (u.worth at) ∙ e }
+by_tree r t v n u e = record { part = value u.tree; fits = fits_num u.within; text = u.text; field = λ at. ap (code_of r) (u.worth at) ∙ e }
 
 text_plus : (unit h n : ℕ) → n < h → signed_text unit h n ≡ decimal 8 (unit * n)
 unfolding signed_text
@@ -171,8 +171,8 @@ base_read : (n : ℕ) → n < 32 → Operand zreg (base_text n) n
 unfolding text_of
 base_read n h =
     split_eq n 0
-    (λ e. rw e (record { part = lone; fits = fits-zero; text = refl; field = λ at. refl }))
-    (λ e. rw (ne_eqb n 0 e) (register_read zreg n h fits-zreg (λ at p. refl)))
+    (λ e. rw e (record { part = lone; fits = fits_zero; text = refl; field = λ at. refl }))
+    (λ e. rw (ne_eqb n 0 e) (register_read zreg n h fits_zreg (λ at p. refl)))
 
 -- pieces one after the other, from any column on
 record Pieces (ps : List Piece) : Type 0 where
@@ -193,12 +193,12 @@ operand_more p n ps e k o r =
 
 pieces : (ps : List Piece) → Fit ps → Pieces ps
 unfolding Fit items_of texts text_of piece_texts fields_from codes all_codes
-pieces [] h = record { parts = []; line = line-end; text = refl; fields = λ at. refl }
+pieces [] h = record { parts = []; line = line_end; text = refl; fields = λ at. refl }
 pieces (letter c ∷ ps) h =
     let r = pieces ps h in
     record { parts = byte c ∷ r.parts; line = line_more (fits_lit c) r.line; text = ap (λ (s : List ℕ). c ∷ s) r.text; fields = λ at. r.fields (at + 1) }
-pieces (gpr n ∷ ps) h = operand_more (gpr n) n ps refl (λ f fs. refl) (register_read reg n h.0 fits-reg (λ at p. refl)) (pieces ps h.1)
-pieces (gprOr0 n ∷ ps) h = operand_more (gprOr0 n) n ps refl (λ f fs. refl) (base_read n h.0) (pieces ps h.1)
+pieces (gpr n ∷ ps) h = operand_more (gpr n) n ps refl (λ f fs. refl) (register_read reg n h.0 fits_reg (λ at p. refl)) (pieces ps h.1)
+pieces (gpr_or0 n ∷ ps) h = operand_more (gpr_or0 n) n ps refl (λ f fs. refl) (base_read n h.0) (pieces ps h.1)
 pieces (number r n ∷ ps) h = operand_more (number r n) n ps refl (λ f fs. refl) (number_read r n h.0 h.1) (pieces ps h.2)
 
 pub record LineRead (i : Instr) : Type 0 where
@@ -215,7 +215,7 @@ line_back i v = let r = pieces (written i) (fit_written i v) in record { parts =
 piece_length : (p : Piece) → length (piece_text p) ≤ wide_item (item_of p)
 piece_length (letter c) = omega arith
 piece_length (gpr n) = omega (arith, decimal_length 2 n)
-piece_length (gprOr0 n) = split_eq n 0 (λ e. rw e (omega arith)) (λ e. rw (ne_eqb n 0 e) (omega (arith, decimal_length 2 n)))
+piece_length (gpr_or0 n) = split_eq n 0 (λ e. rw e (omega arith)) (λ e. rw (ne_eqb n 0 e) (omega (arith, decimal_length 2 n)))
 piece_length (number (signed h) n) = signed_length 1 h n
 piece_length (number (unsigned m) n) = omega (arith, decimal_length 8 n)
 piece_length (number (target h) n) = signed_length 4 h n

@@ -1,21 +1,21 @@
 -- The column of an answer lies within the line: a value that is outside its range starts in its expression.
-use Prim.Native.Nat.{ℕ, zero, suc, ◌+◌, ◌-◌, ◌*◌, ◌/◌, ◌%◌, ◌≤◌, ◌<◌}
+use Prim.Native.Nat.{ℕ, suc, ◌+◌, ◌-◌, ◌*◌, ◌/◌, ◌%◌, ◌≤◌}
 use native.Mathlib.Omega.{arith}
-use mathlib.Core.Path.{◌≡◌, refl, sym, ap, ◌∙◌, subst}
+use mathlib.Core.Path.{◌≡◌, ap}
 use mathlib.Core.Bool.{Bool, true, false}
 use mathlib.Core.Logic.{◌⊎◌, inl, inr, ⊎_elim}
 use mathlib.Core.List.{List, [], ◌∷◌, ◌++◌}
 use lib.Dec.{eqb, ltb}
 use lib.IntN.{ℤ, pos, negsuc, neg_ℤ, ◌*ℤ◌}
 use lib.ListN.{length, length-append}
-use Rattle.expr.specs.Grammar.{Expr, Prod, Fac, textE, textP, textF, sign_byte, prefix_of, pick}
-use Rattle.expr.specs.Evaluate.{in_range, negated, both, join_z, joined, multiplied, digits_value, evalE, evalP, evalF}
+use Rattle.expr.specs.Grammar.{Expr, Prod, Fac, text_e, text_p, text_f, sign_byte, pick}
+use Rattle.expr.specs.Evaluate.{in_range, negated, both, join_z, joined, multiplied, digits_value, eval_e, eval_p, eval_f}
 use Rattle.expr.specs.declared.Value.{Value}
 use Rattle.insn.specs.declared.profile.Profile.{Profile}
 use Rattle.syntax.specs.Syntax.{Range, signed, unsigned, target, frame, Item, lit, reg, zreg, num}
 use Rattle.syntax.specs.Line.{Part, byte, register, zero as lone, value, text_of, texts, Has}
-use Rattle.syntax.specs.Worth.{below, signed_code, unsigned_code, target_code, frame_code, code_of, register_field, number_field, field_of, kept, fields_from, First, none, at, or_else, first_off}
-use Rattle.asm.specs.Answer.{Answer, accepted, stopped as answer-stopped, outside, invalid, fields_of}
+use Rattle.syntax.specs.Worth.{signed_code, unsigned_code, target_code, frame_code, code_of, register_field, number_field, fields_from, at, first_off}
+use Rattle.asm.specs.Answer.{Answer, accepted, stopped as answer_stopped, outside, invalid, fields_of}
 use Rattle.syntax.specs.declared.field.Field.{Field}
 use Rattle.asm.specs.declared.assemble.Assembled.{Assembled}
 use Rattle.asm.proofs.Answers.{at_same}
@@ -54,28 +54,28 @@ both_off f i k (Value.Minus m) (Value.Plus n) e = inr (inr (range_off i k (f (ne
 both_off f i k (Value.Minus m) (Value.Minus n) e = inr (inr (range_off i k (f (negsuc m) (negsuc n)) e))
 
 mutual
-  unfolding evalE evalP evalF textE textP textF joined multiplied
+  unfolding eval_e eval_p eval_f text_e text_p text_f joined multiplied
 
-  off-e : (x : Expr) (i k : ℕ) → evalE x i ≡ Value.Off k → k ≤ i + length (textE x)
-  off-e (Expr.only p) i k e = off-p p i k e
-  off-e (Expr.sum x m p) i k e =
-      let n : length (textE x ++ (sign_byte m ∷ textP p)) ≡ length (textE x) + suc (length (textP p)) = length-append (textE x) (sign_byte m ∷ textP p) in
-      ⊎_elim (λ q. omega (arith, n, off-e x i k q)) (λ r. ⊎_elim (λ q. omega (arith, n, off-p p (i + length (textE x) + 1) k q)) (λ q. omega arith) r)
-      (both_off (join_z m) i k (evalE x i) (evalP p (i + length (textE x) + 1)) e)
+  off_e : (x : Expr) (i k : ℕ) → eval_e x i ≡ Value.Off k → k ≤ i + length (text_e x)
+  off_e (Expr.only p) i k e = off_p p i k e
+  off_e (Expr.sum x m p) i k e =
+      let n : length (text_e x ++ (sign_byte m ∷ text_p p)) ≡ length (text_e x) + suc (length (text_p p)) = length-append (text_e x) (sign_byte m ∷ text_p p) in
+      ⊎_elim (λ q. omega (arith, n, off_e x i k q)) (λ r. ⊎_elim (λ q. omega (arith, n, off_p p (i + length (text_e x) + 1) k q)) (λ q. omega arith) r)
+      (both_off (join_z m) i k (eval_e x i) (eval_p p (i + length (text_e x) + 1)) e)
 
-  off-p : (x : Prod) (i k : ℕ) → evalP x i ≡ Value.Off k → k ≤ i + length (textP x)
-  off-p (Prod.one f) i k e = off-f f i k e
-  off-p (Prod.times x f) i k e =
-      let n : length (textP x ++ (42 ∷ textF f)) ≡ length (textP x) + suc (length (textF f)) = length-append (textP x) (42 ∷ textF f) in
-      ⊎_elim (λ q. omega (arith, n, off-p x i k q)) (λ r. ⊎_elim (λ q. omega (arith, n, off-f f (i + length (textP x) + 1) k q)) (λ q. omega arith) r)
-      (both_off (λ a b. a *ℤ b) i k (evalP x i) (evalF f (i + length (textP x) + 1)) e)
+  off_p : (x : Prod) (i k : ℕ) → eval_p x i ≡ Value.Off k → k ≤ i + length (text_p x)
+  off_p (Prod.one f) i k e = off_f f i k e
+  off_p (Prod.times x f) i k e =
+      let n : length (text_p x ++ (42 ∷ text_f f)) ≡ length (text_p x) + suc (length (text_f f)) = length-append (text_p x) (42 ∷ text_f f) in
+      ⊎_elim (λ q. omega (arith, n, off_p x i k q)) (λ r. ⊎_elim (λ q. omega (arith, n, off_f f (i + length (text_p x) + 1) k q)) (λ q. omega arith) r)
+      (both_off (λ a b. a *ℤ b) i k (eval_p x i) (eval_f f (i + length (text_p x) + 1)) e)
 
-  off-f : (x : Fac) (i k : ℕ) → evalF x i ≡ Value.Off k → k ≤ i + length (textF x)
-  off-f (Fac.num h d ds) i k e = let q : i ≡ k = range_off i k (pos (digits_value h 0 (d ∷ ds))) e in omega arith
-  off-f (Fac.bracket x) i k e =
-      let n : length (textE x ++ (41 ∷ [])) ≡ length (textE x) + 1 = length-append (textE x) (41 ∷ []) in
-      omega (arith, n, off-e x (i + 1) k e)
-  off-f (Fac.minus f) i k e = ⊎_elim (λ q. omega (arith, off-f f (i + 1) k q)) (λ q. omega arith) (negated_off i k (evalF f (i + 1)) e)
+  off_f : (x : Fac) (i k : ℕ) → eval_f x i ≡ Value.Off k → k ≤ i + length (text_f x)
+  off_f (Fac.num h d ds) i k e = let q : i ≡ k = range_off i k (pos (digits_value h 0 (d ∷ ds))) e in omega arith
+  off_f (Fac.bracket x) i k e =
+      let n : length (text_e x ++ (41 ∷ [])) ≡ length (text_e x) + 1 = length-append (text_e x) (41 ∷ []) in
+      omega (arith, n, off_e x (i + 1) k e)
+  off_f (Fac.minus f) i k e = ⊎_elim (λ q. omega (arith, off_f f (i + 1) k q)) (λ q. omega arith) (negated_off i k (eval_f f (i + 1)) e)
 
 field_same : (j k : ℕ) → Field.Off j ≡ Field.Off k → Value.Off j ≡ Value.Off k
 field_same j k e = let q : j ≡ k = cc in ap Value.Off q
@@ -118,7 +118,7 @@ register_off (value x) k e = no_unfit k e
 
 number_off : (r : Range) (i : ℕ) (p : Part) (k : ℕ) → number_field r i p ≡ Field.Off k → k ≤ i + length (text_of p)
 unfolding text_of
-number_off r i (value x) k e = off-e x i k (code_off r (evalE x i) k e)
+number_off r i (value x) k e = off_e x i k (code_off r (eval_e x i) k e)
 number_off r i (byte c) k e = no_unfit k e
 number_off r i (register d ds) k e = no_unfit k e
 number_off r i lone k e = no_unfit k e
@@ -151,6 +151,6 @@ outside_column p s k h e = let q : length (texts h.parts) ≡ length s = ap leng
 -- the column and the number of every answer are small
 pub answer_small : (p : Profile) (s : List ℕ) (r : Assembled) → Answer p s r → (r.column ≤ 256) × (r.refusal ≤ 12)
 answer_small p s r (accepted i l x v) = (omega arith, omega arith)
-answer_small p s r (answer-stopped k x) = (x.most, omega arith)
+answer_small p s r (answer_stopped k x) = (x.most, omega arith)
 answer_small p s r (outside k l h e) = (omega (arith, outside_column p s k h e), omega arith)
 answer_small p s r (invalid l h e n) = (omega arith, omega arith)

@@ -1,20 +1,20 @@
 -- The operands that the code gathers, and what they come to.
-use Prim.Native.Nat.{ℕ, zero, suc, ◌+◌, ◌-◌, ◌*◌, ◌/◌, ◌%◌, ◌≤◌, ◌<◌}
+use Prim.Native.Nat.{ℕ, ◌+◌, ◌-◌, ◌*◌, ◌%◌, ◌≤◌, ◌<◌}
 use native.Mathlib.Omega.{arith}
-use mathlib.Core.Path.{◌≡◌, refl, sym, ap, ◌∙◌, subst}
+use mathlib.Core.Path.{◌≡◌, refl, sym, ap, ◌∙◌}
 use mathlib.Core.Bool.{Bool, true, false}
 use mathlib.Core.Logic.{◌⊎◌, inl, inr}
-use mathlib.Core.List.{List, [], ◌∷◌, ◌++◌}
+use mathlib.Core.List.{List, [], ◌∷◌}
 use borrow.Author.Tests.{ltb-true}
 use lib.Dec.{eqb, ltb}
 use lib.ListN.{length}
-use Rattle.expr.specs.Grammar.{Expr, pick}
-use Rattle.expr.specs.Evaluate.{evalE, digits_value}
+use Rattle.expr.specs.Grammar.{pick}
+use Rattle.expr.specs.Evaluate.{eval_e, digits_value}
 use Rattle.expr.specs.declared.Value.{Value}
 use Rattle.syntax.specs.Syntax.{Range, signed, unsigned, target, frame, Item, lit, reg, zreg, num}
-use Rattle.syntax.specs.Line.{Part, byte, register, zero as lone, value, text_of, Line, line-end, line_more, Fits, fits_lit, fits-reg, fits-zreg, fits-zero, fits-num}
-use Rattle.syntax.specs.Worth.{below, signed_code, unsigned_code, target_code, frame_code, code_of, register_field, number_field, field_of, kept, fields_from, all_codes, First, none, at, first_off}
-use Rattle.syntax.specs.Inside.{no_operands, pushed, push_on, gathered, operand_count}
+use Rattle.syntax.specs.Line.{Part, byte, register, zero as lone, value, text_of, Line, line_end, line_more}
+use Rattle.syntax.specs.Worth.{below, signed_code, unsigned_code, target_code, frame_code, code_of, register_field, number_field, field_of, kept, fields_from, all_codes, none, at, first_off}
+use Rattle.syntax.specs.Inside.{no_operands, push_on, gathered, operand_count}
 use Rattle.asm.specs.Inside.{after_of, checked_of}
 use Rattle.syntax.specs.declared.field.Field.{Field}
 use Rattle.syntax.specs.declared.line.Operands.{Operands}
@@ -200,7 +200,7 @@ register_size (byte c) n e = no_code n e
 register_size (value x) n e = no_code n e
 
 number_size : (r : Range) (i : ℕ) (p : Part) (n : ℕ) → number_field r i p ≡ Field.Code n → n < size_of r
-number_size r i (value x) n e = code_size r (evalE x i) n e
+number_size r i (value x) n e = code_size r (eval_e x i) n e
 number_size r i (byte c) n e = no_code n e
 number_size r i (register d ds) n e = no_code n e
 number_size r i lone n e = no_code n e
@@ -212,8 +212,13 @@ one_below m ms f fs (n ∷ ns) e g h = let q : f ≡ Field.Code n = cc in let r 
 
 within : (xs : List Item) (ps : List Part) (i : ℕ) (ns : List ℕ) → Line xs ps → fields_from i xs ps ≡ all_codes ns → Below (sizes xs) ns
 unfolding fields_from all_codes
-within [] [] i [] line-end e = tt
-within [] [] i (n ∷ ns) line-end e = let z : ◌≡◌ {A = ℕ} 0 1 = cc in let y : ⊥ = omega arith in absurd y
+within [] [] i [] line_end e = tt
+within [] [] i (n ∷ ns) line_end e = let z : ◌≡◌ {A = ℕ} 0 1 = cc in let y : ⊥ = omega arith in absurd y
+within [] (p ∷ ps) i ns l e = elim l [ ]
+within (lit c ∷ xs) [] i ns l e = elim l [ ]
+within (reg ∷ xs) [] i ns l e = elim l [ ]
+within (zreg ∷ xs) [] i ns l e = elim l [ ]
+within (num r ∷ xs) [] i ns l e = elim l [ ]
 within (lit c ∷ xs) (p ∷ ps) i ns (line_more f l) e = within xs ps (i + length (text_of p)) ns l e
 within (reg ∷ xs) (p ∷ ps) i ns (line_more f l) e = one_below 32 (sizes xs) (register_field p) (fields_from (i + length (text_of p)) xs ps) ns e (λ n q. register_size p n q) (λ ks q. within xs ps (i + length (text_of p)) ks l q)
 within (zreg ∷ xs) (p ∷ ps) i ns (line_more f l) e = one_below 32 (sizes xs) (register_field p) (fields_from (i + length (text_of p)) xs ps) ns e (λ n q. register_size p n q) (λ ks q. within xs ps (i + length (text_of p)) ks l q)

@@ -25,7 +25,7 @@ use Rattle.insn.specs.declared.instr.System.{System}
 use Rattle.insn.specs.declared.instr.ArithImmOp.{ArithImmOp}
 use Rattle.insn.specs.declared.instr.SprOp.{SprOp}
 use Rattle.insn.specs.declared.instr.Sign.{Sign}
-use Rattle.syntax.specs.Syntax.{Range, signed, unsigned, target, frame, Item, lit, reg, zreg, num, Piece, letter, gpr, gprOr0, number, letters, spelt, written, plain, items_of, shape_of}
+use Rattle.syntax.specs.Syntax.{Range, signed, unsigned, target, frame, Item, lit, reg, zreg, num, Piece, letter, gpr, gpr_or0, number, letters, spelt, written, plain, items_of, shape_of}
 use Rattle.syntax.specs.Text.{bytes}
 use Rattle.syntax.specs.Worth.{codes, all_codes}
 use Rattle.syntax.specs.Rows.{sample_of}
@@ -56,7 +56,7 @@ unfoldable pub Fit : List Piece → Type 0
 Fit [] = Unit {0}
 Fit (letter c ∷ ps) = Fit ps
 Fit (gpr n ∷ ps) = (n < 32) × Fit ps
-Fit (gprOr0 n ∷ ps) = (n < 32) × Fit ps
+Fit (gpr_or0 n ∷ ps) = (n < 32) × Fit ps
 Fit (number r n ∷ ps) = (n < size_of r) × (size_of r ≤ 2 ^ 24) × Fit ps
 
 fit_after : (name : List ℕ) (ps : List Piece) → Fit ps → Fit (letters name ++ ps)

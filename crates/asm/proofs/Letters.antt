@@ -13,7 +13,7 @@ use lib.Seq.{sets}
 use Rattle.syntax.specs.Syntax.{shape_of, plain}
 use Rattle.syntax.specs.LineOf.{line_of}
 use Rattle.asm.specs.Listing.{listed_of, listed_out}
-use Rattle.asm.specs.Answer.{Answer, stopped as answer-stopped}
+use Rattle.asm.specs.Answer.{Answer, stopped as answer_stopped}
 use Rattle.syntax.specs.Rows.{samples, sample_of, row_of}
 use Rattle.asm.specs.Queue.{queue_of}
 use Rattle.syntax.specs.Inside.{pattern_at, printed, WithRows}
@@ -70,10 +70,10 @@ placed_read p (a ∷ s) c before after r n e w = subst (λ (x : ℕ). WithRows (
 -- ---- what is answered
 
 pub short_bad : (p : Profile) (s : List ℕ) (k : ℕ) (r : Assembled) → length s ≤ 256 → Placed p s (Done.Bad k) → r ≡ refused_with 11 k → Answer p s r
-short_bad p s k r l h e = rw e (answer-stopped k (short_stops p s k l (placed_bad p s k h)))
+short_bad p s k r l h e = rw e (answer_stopped k (short_stops p s k l (placed_bad p s k h)))
 
 pub long_bad : (p : Profile) (s : List ℕ) (k : ℕ) (r : Assembled) → 256 < length s → Placed p (take 256 s) (Done.Bad k) → r ≡ refused_with 11 k → Answer p s r
-long_bad p s k r l h e = rw e (answer-stopped k (long_stops p s k l (placed_bad p (take 256 s) k h)))
+long_bad p s k r l h e = rw e (answer_stopped k (long_stops p s k l (placed_bad p (take 256 s) k h)))
 
 pub long_row : (p : Profile) (s : List ℕ) (w : ℕ) (o : Operands) (r : Assembled) → 256 < length s → Placed p (take 256 s) (Done.Row w o) → r ≡ refused_with 11 256 → Answer p s r
-long_row p s w o r l h e = rw e (answer-stopped 256 (long_whole p s l (placed_has p (take 256 s) w o h)))
+long_row p s w o r l h e = rw e (answer_stopped 256 (long_whole p s l (placed_has p (take 256 s) w o h)))

@@ -14,7 +14,7 @@ use Rattle.insn.specs.declared.instr.System.{System}
 use Rattle.insn.specs.declared.instr.ArithImmOp.{ArithImmOp}
 use Rattle.insn.specs.declared.instr.SprOp.{SprOp}
 use Rattle.insn.specs.declared.instr.Sign.{Sign}
-use Rattle.syntax.specs.Syntax.{Piece, letter, Si, R, D, letters, commas, spelt, arith_imm_base, compare_imm, items_of, shape_of}
+use Rattle.syntax.specs.Syntax.{Piece, letter, SI, R, D, letters, commas, spelt, arith_imm_base, compare_imm, items_of, shape_of}
 use Rattle.syntax.specs.LineOf.{piece_texts, line_of}
 use Rattle.asm.specs.Queue.{queued, queue_of}
 use Rattle.syntax.specs.Inside.{printed}
@@ -43,7 +43,7 @@ unfolding piece_texts printed items_of commas
 displaced true r d ra = refl
 displaced false r d ra = refl
 
-based : (op : ArithImmOp) (rt ra si : ℕ) → Printed (letter 32 ∷ R rt ++ commas (arith_imm_base op ra ∷ Si si ∷ [])) (queued rt ra si 0 0)
+based : (op : ArithImmOp) (rt ra si : ℕ) → Printed (letter 32 ∷ R rt ++ commas (arith_imm_base op ra ∷ SI si ∷ [])) (queued rt ra si 0 0)
 unfolding piece_texts printed items_of commas
 based ArithImmOp.Addi rt ra si = refl
 based ArithImmOp.Addis rt ra si = refl

@@ -6,7 +6,7 @@ use Rattle.insn.specs.declared.profile.Profile.{Profile}
 use Rattle.insn.specs.declared.instr.Instr.{Instr}
 use Rattle.syntax.specs.Syntax.{written, plain, shape_of}
 use Rattle.syntax.specs.Line.{Part, Line, texts, Has, Opens}
-use Rattle.syntax.specs.Worth.{First, none, at, fields_from, first_off, codes, all_codes}
+use Rattle.syntax.specs.Worth.{none, at, fields_from, first_off, codes, all_codes}
 use Rattle.syntax.specs.declared.field.Field.{Field}
 use Rattle.asm.specs.declared.assemble.Assembled.{Assembled}
 

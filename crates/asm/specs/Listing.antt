@@ -1,5 +1,5 @@
 -- What is answered for a word: its line at the start of the output, or that it is illegal, or refusal 8.
-use Rattle.std.specs.Prelude.{ℕ, Bool, true, false, not, List, ltb, length}
+use Rattle.std.specs.Prelude.{ℕ, not, List, ltb, length}
 use Rattle.std.proofs.lemmas.List.Edits.{sets}
 use Rattle.expr.specs.Grammar.{pick}
 use Rattle.insn.specs.declared.instr.Decoded.{Decoded}

@@ -12,7 +12,7 @@ use syntax::field::Field;
 use syntax::line::Operands;
 use syntax::table::{Done, Job, at_letter};
 
-#[derive(Drop)]
+#[derive(Clone, Copy)]
 pub struct Assembled {
     pub refusal: u8,
     pub column: usize,
@@ -20,7 +20,7 @@ pub struct Assembled {
 }
 
 // What the operands seen so far come to: an operand that does not fit counts only if no value is off.
-#[derive(Drop)]
+#[derive(Clone, Copy)]
 pub enum Check {
     Fine,
     Unfit,

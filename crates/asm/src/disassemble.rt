@@ -11,7 +11,7 @@ use syntax::table::print_row;
 
 // Refused with 8, since the output has under 64 bytes; an illegal word; or the bytes of the line, and whether a field that it
 // does not write is set.
-#[derive(Drop)]
+#[derive(Clone, Copy)]
 pub enum Listed {
     Refused,
     Illegal,

@@ -9,7 +9,7 @@ use syntax::field::Field;
 use syntax::line::Operands;
 
 // The contents of the fields of a line's operands: a is of the last, b of the one before it.
-#[derive(Drop)]
+#[derive(Clone, Copy)]
 pub struct Codes {
     pub a: u32,
     pub b: u32,

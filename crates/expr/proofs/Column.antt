@@ -1,12 +1,12 @@
 -- What the scan answers at a column hangs on the bytes up to it alone.
-use Prim.Native.Nat.{ℕ, zero, suc, ◌+◌, ◌≤◌}
+use Prim.Native.Nat.{ℕ, suc, ◌+◌, ◌≤◌}
 use native.Mathlib.Omega.{arith}
 use mathlib.Core.Path.{◌≡◌, refl}
 use mathlib.Core.Bool.{false}
 use mathlib.Core.List.{List, [], ◌∷◌, ◌++◌}
 use lib.ListN.{length}
 use Rattle.expr.specs.Grammar.{Expr, Prod, Fac}
-use Rattle.expr.specs.Scan.{AtE, AtP, AtF, expr_at, outer, St, Next, Out, step, finish, finish_e, finish_f, scan, onward}
+use Rattle.expr.specs.Scan.{AtE, AtF, expr_at, outer, St, Next, Out, step, finish, finish_e, finish_f, scan, onward}
 
 abbrev pub column_of : Out → ℕ
 column_of (Out.ended e n) = n
@@ -26,8 +26,8 @@ at_finish_f (AtF.negates k) f i = at_finish_f k (Fac.minus f) i
 at_finish : (st : St) (i : ℕ) → column_of (finish st i) ≡ i
 unfolding finish
 at_finish (St.want k) i = refl
-at_finish (St.zeroRead k) i = at_finish_f k (Fac.num false 48 []) i
-at_finish (St.hexRead k) i = refl
+at_finish (St.zero_read k) i = at_finish_f k (Fac.num false 48 []) i
+at_finish (St.hex_read k) i = refl
 at_finish (St.digits k h d ds) i = at_finish_f k (Fac.num h d ds) i
 at_finish (St.factored k p) i = at_finish_e (outer k) (expr_at k p) i
 at_finish (St.summed k e) i = at_finish_e k e i

@@ -1,5 +1,5 @@
 -- The digits of a number, one by one.
-use Prim.Native.Nat.{ℕ, zero, suc, ◌+◌, ◌*◌, ◌<◌, ◌≤◌}
+use Prim.Native.Nat.{ℕ, suc, ◌+◌, ◌*◌, ◌<◌, ◌≤◌}
 use native.Mathlib.Omega.{arith}
 use native.Mathlib.Nat.{suc-add, add-suc, add-zero}
 use native.Mathlib.Numerals.{add-one}
@@ -15,7 +15,6 @@ use Rattle.expr.specs.Grammar.{pick, is_digit, Fac}
 use Rattle.expr.specs.Evaluate.{base, digit_of, digits_value, in_range}
 use Rattle.expr.specs.Scan.{AtF, St, step, step_done, done, finish, finish_f, scan}
 use Rattle.expr.specs.Digits.{digits_from, grown}
-use Rattle.expr.specs.declared.Run.{Run}
 
 pub digits_more : (s : List ℕ) (h : Bool) (v i : ℕ) → i < length s → is_digit h (get_or s i 0) ≡ true → digits_from h v i (drop i s) ≡ digits_from h (grown h v (get_or s i 0)) (i + 1) (drop (i + 1) s)
 unfolding digits_from

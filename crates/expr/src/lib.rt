@@ -1,4 +1,6 @@
 // Expressions of a line: read, and valued, by readers that call each other.
+#![tactic(auto)]
+
 ghost use Rattle.std.specs.Prelude.{◌≡◌, ℕ, ◌+◌, ◌-◌, ◌≤◌, ◌<◌, length, drop, true, false, ℤ, pos, negsuc, neg_ℤ};
 ghost use Rattle.std.proofs.Math.IntN.{sub_ℕ};
 ghost use Rattle.expr.specs.Grammar.{is_digit};
@@ -7,7 +9,7 @@ ghost use Rattle.expr.specs.Digits.{digits_from, grown};
 ghost use Rattle.expr.specs.Reads.{byte_at, Small, Near, flipped, factor_reads, prod_reads, expr_reads, want_p, want_e, terms_reads, sum_reads, number_reads, decimal_at, hex_at};
 
 // A value in -2^31 to 2^31 - 1, Minus(n) being -(n + 1); or the column of the first that is outside.
-#[derive(Drop)]
+#[derive(Clone, Copy)]
 pub enum Value {
     Plus(u64),
     Minus(u64),
@@ -15,13 +17,13 @@ pub enum Value {
 }
 
 // No line goes on at a column; or where what was read ends, and its value.
-#[derive(Drop)]
+#[derive(Clone, Copy)]
 pub enum Reading {
     Bad(usize),
     Read(usize, Value),
 }
 
-#[derive(Drop)]
+#[derive(Clone, Copy)]
 pub struct Run {
     pub end: usize,
     pub value: u64,

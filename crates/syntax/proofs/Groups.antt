@@ -1,10 +1,10 @@
 -- The samples of a letter: their lines begin with it, and no two share a line. So every line of the grammar is of one row alone.
-use Prim.Native.Nat.{ℕ, zero, suc, ◌+◌, ◌≤◌, ◌<◌}
+use Prim.Native.Nat.{ℕ, zero, suc, ◌<◌}
 use native.Mathlib.Omega.{arith}
 use mathlib.Core.Path.{◌≡◌, refl, sym, ap, ◌∙◌, subst}
 use mathlib.Core.Bool.{Bool, true, false, ◌&&◌}
-use mathlib.Core.List.{List, [], ◌∷◌, ◌++◌}
-use borrow.Author.Tests.{eqb-true, eqb-false}
+use mathlib.Core.List.{List, [], ◌∷◌}
+use borrow.Author.Tests.{eqb-true}
 use lib.Dec.{eqb}
 use lib.ListN.{length, get_or}
 use Rattle.expr.specs.Grammar.{pick, is_digit}
@@ -14,8 +14,8 @@ use Rattle.insn.specs.declared.instr.Instr.{Instr}
 use Rattle.insn.specs.declared.instr.System.{System}
 use Rattle.syntax.specs.Text.{bytes}
 use Rattle.syntax.specs.Syntax.{Item, lit, reg, zreg, num, letters, commas, spelt, spelled_on, items_of, shape_of}
-use Rattle.syntax.specs.Line.{Part, byte, Line, line-end, line_more, fits_lit, texts, text_of}
-use Rattle.syntax.specs.Take.{ends_reg, ends_num, followed, apart, well_made}
+use Rattle.syntax.specs.Line.{Part, Line, line_more, fits_lit, texts, text_of}
+use Rattle.syntax.specs.Take.{apart, well_made}
 use Rattle.syntax.specs.Rows.{samples, samples_a, samples_b, samples_c, samples_d, samples_e, samples_l, samples_m, samples_n, samples_o, samples_r, samples_s, samples_t, samples_w, samples_x, row_of}
 use Rattle.syntax.proofs.Spelled.{spelled_42x}
 use Rattle.syntax.proofs.Samples.{sample_shape, sample_at_lem, row_in}
@@ -23,11 +23,11 @@ use Rattle.syntax.proofs.Rows.{differ, differ_texts}
 
 -- a claim for the samples of every byte
 at_letter_lem : (P : ℕ → List Instr → Type 0) (c a : ℕ) (xs rest : List Instr) → P a xs → P c rest → P c (pick (eqb c a) xs rest)
-at_letter_lem P c a xs rest p q = letter-case (eqb c a) refl
+at_letter_lem P c a xs rest p q = letter_case (eqb c a) refl
   where
-    letter-case : (b : Bool) → eqb c a ≡ b → P c (pick b xs rest)
-    letter-case true e = subst (λ (x : ℕ). P x xs) (sym (eqb-true c a e)) p
-    letter-case false e = q
+    letter_case : (b : Bool) → eqb c a ≡ b → P c (pick b xs rest)
+    letter_case true e = subst (λ (x : ℕ). P x xs) (sym (eqb-true c a e)) p
+    letter_case false e = q
 
 unfoldable head_is : ℕ → List Item → Bool
 head_is c [] = false
@@ -52,8 +52,8 @@ all_ordered : (p : Profile) (c : ℕ) → Ordered c (samples p c)
 unfolding samples samples_a samples_b samples_c samples_d samples_e samples_l samples_m samples_n samples_o samples_r samples_s samples_t samples_w samples_x ordered head_is apart_from differ well_made apart is_digit shape_of items_of spelt commas letters bytes
 all_ordered p c =
     at_letter_lem Ordered c 97 samples_a _ refl (at_letter_lem Ordered c 98 samples_b _ refl (at_letter_lem Ordered c 99 samples_c _ refl (at_letter_lem Ordered c 100 samples_d _ refl
-    (at_letter_lem Ordered c 101 samples_e _ refl (at_letter_lem Ordered c 108 (samples_l p) _ (elim p [ Profile.Ppe42 ↦ refl | Profile.Ppe42x ↦ refl ]) (at_letter_lem Ordered c 109 (samples_m p) _ (elim p [ Profile.Ppe42 ↦ refl | Profile.Ppe42x ↦ refl ]) (at_letter_lem Ordered c 110 samples_n _ refl
-    (at_letter_lem Ordered c 111 samples_o _ refl (at_letter_lem Ordered c 114 (samples_r p) _ (elim p [ Profile.Ppe42 ↦ refl | Profile.Ppe42x ↦ refl ]) (at_letter_lem Ordered c 115 (samples_s p) _ (elim p [ Profile.Ppe42 ↦ refl | Profile.Ppe42x ↦ refl ]) (at_letter_lem Ordered c 116 samples_t _ refl
+    (at_letter_lem Ordered c 101 samples_e _ refl (at_letter_lem Ordered c 108 (samples_l p) _ (elim p as (λ (q : Profile). Ordered 108 (samples_l q)) [ Profile.Ppe42 ↦ refl | Profile.Ppe42x ↦ refl ]) (at_letter_lem Ordered c 109 (samples_m p) _ (elim p as (λ (q : Profile). Ordered 109 (samples_m q)) [ Profile.Ppe42 ↦ refl | Profile.Ppe42x ↦ refl ]) (at_letter_lem Ordered c 110 samples_n _ refl
+    (at_letter_lem Ordered c 111 samples_o _ refl (at_letter_lem Ordered c 114 (samples_r p) _ (elim p as (λ (q : Profile). Ordered 114 (samples_r q)) [ Profile.Ppe42 ↦ refl | Profile.Ppe42x ↦ refl ]) (at_letter_lem Ordered c 115 (samples_s p) _ (elim p as (λ (q : Profile). Ordered 115 (samples_s q)) [ Profile.Ppe42 ↦ refl | Profile.Ppe42x ↦ refl ]) (at_letter_lem Ordered c 116 samples_t _ refl
     (at_letter_lem Ordered c 119 samples_w _ refl (at_letter_lem Ordered c 120 samples_x _ refl refl)))))))))))))
 
 ordered_parts : (c : ℕ) (i : Instr) (is : List Instr) → Ordered c (i ∷ is) → ((head_is c (shape_of i) ≡ true) × (well_made (shape_of i) ≡ true)) × ((apart_from i is ≡ true) × (ordered c is ≡ true))
@@ -99,8 +99,8 @@ all_spelled_lem : (p : Profile) (c : ℕ) → AllSpelled p c (samples p c)
 unfolding samples samples_a samples_b samples_c samples_d samples_e samples_l samples_m samples_n samples_o samples_r samples_s samples_t samples_w samples_x all_spelled
 all_spelled_lem p c =
     at_letter_lem (AllSpelled p) c 97 samples_a _ refl (at_letter_lem (AllSpelled p) c 98 samples_b _ refl (at_letter_lem (AllSpelled p) c 99 samples_c _ refl (at_letter_lem (AllSpelled p) c 100 samples_d _ refl
-    (at_letter_lem (AllSpelled p) c 101 samples_e _ refl (at_letter_lem (AllSpelled p) c 108 (samples_l p) _ (elim p [ Profile.Ppe42 ↦ refl | Profile.Ppe42x ↦ refl ]) (at_letter_lem (AllSpelled p) c 109 (samples_m p) _ (elim p [ Profile.Ppe42 ↦ refl | Profile.Ppe42x ↦ refl ]) (at_letter_lem (AllSpelled p) c 110 samples_n _ refl
-    (at_letter_lem (AllSpelled p) c 111 samples_o _ refl (at_letter_lem (AllSpelled p) c 114 (samples_r p) _ (elim p [ Profile.Ppe42 ↦ refl | Profile.Ppe42x ↦ refl ]) (at_letter_lem (AllSpelled p) c 115 (samples_s p) _ (elim p [ Profile.Ppe42 ↦ refl | Profile.Ppe42x ↦ refl ]) (at_letter_lem (AllSpelled p) c 116 samples_t _ refl
+    (at_letter_lem (AllSpelled p) c 101 samples_e _ refl (at_letter_lem (AllSpelled p) c 108 (samples_l p) _ (elim p as (λ (q : Profile). AllSpelled q 108 (samples_l q)) [ Profile.Ppe42 ↦ refl | Profile.Ppe42x ↦ refl ]) (at_letter_lem (AllSpelled p) c 109 (samples_m p) _ (elim p as (λ (q : Profile). AllSpelled q 109 (samples_m q)) [ Profile.Ppe42 ↦ refl | Profile.Ppe42x ↦ refl ]) (at_letter_lem (AllSpelled p) c 110 samples_n _ refl
+    (at_letter_lem (AllSpelled p) c 111 samples_o _ refl (at_letter_lem (AllSpelled p) c 114 (samples_r p) _ (elim p as (λ (q : Profile). AllSpelled q 114 (samples_r q)) [ Profile.Ppe42 ↦ refl | Profile.Ppe42x ↦ refl ]) (at_letter_lem (AllSpelled p) c 115 (samples_s p) _ (elim p as (λ (q : Profile). AllSpelled q 115 (samples_s q)) [ Profile.Ppe42 ↦ refl | Profile.Ppe42x ↦ refl ]) (at_letter_lem (AllSpelled p) c 116 samples_t _ refl
     (at_letter_lem (AllSpelled p) c 119 samples_w _ refl (at_letter_lem (AllSpelled p) c 120 samples_x _ refl refl)))))))))))))
 
 spelled_in : (p : Profile) (is : List Instr) (n : ℕ) (d : Instr) → all_spelled p is ≡ true → n < length is → spelled_on p (get_or is n d) ≡ true
@@ -122,6 +122,7 @@ head_text : (c : ℕ) (xs : List Item) (ps : List Part) (a : ℕ) (w : List ℕ)
 unfolding head_is texts text_of
 head_text c [] ps a w h l e = clash h
 head_text c (lit b ∷ xs) (p ∷ ps) a w h (line_more (fits_lit _) l) e = let q : b ≡ c = eqb-true b c h in let r : b ≡ a = cc in sym q ∙ r
+head_text c (lit b ∷ xs) [] a w h l e = elim l [ ]
 head_text c (reg ∷ xs) ps a w h l e = clash h
 head_text c (zreg ∷ xs) ps a w h l e = clash h
 head_text c (num r ∷ xs) ps a w h l e = clash h
@@ -130,6 +131,7 @@ head_some : (c : ℕ) (xs : List Item) (ps : List Part) → head_is c xs ≡ tru
 unfolding head_is texts text_of
 head_some c [] ps h l e = clash h
 head_some c (lit b ∷ xs) (p ∷ ps) h (line_more (fits_lit _) l) e = let z : ◌≡◌ {A = ℕ} 0 1 = cc in omega arith
+head_some c (lit b ∷ xs) [] h l e = elim l [ ]
 head_some c (reg ∷ xs) ps h l e = clash h
 head_some c (zreg ∷ xs) ps h l e = clash h
 head_some c (num r ∷ xs) ps h l e = clash h
@@ -148,7 +150,7 @@ pub record InRow (p : Profile) (i : Instr) (c : ℕ) : Type 0 where
   pub listed : row < length (samples p c)
   pub shape : shape_of i ≡ shape_of (sample_at p c row)
   pub here : (row_of i).letter ≡ c
-  pub where-it-is : (row_of i).row ≡ row
+  pub where_it_is : (row_of i).row ≡ row
 
 pub in_row : (p : Profile) (i : Instr) (ps : List Part) (c : ℕ) (w : List ℕ) → spelled_on p i ≡ true → Line (shape_of i) ps → texts ps ≡ c ∷ w → InRow p i c
 in_row p i ps c w h l e =
@@ -158,7 +160,7 @@ in_row p i ps c w h l e =
       listed = rw q at (row_in p i h);
       shape = subst (λ (x : ℕ). shape_of i ≡ shape_of (sample_at p x (row_of i).row)) q (shape_at p i h);
       here = q;
-      where-it-is = refl;
+      where_it_is = refl;
     }
 
 pub no_empty : (i : Instr) (ps : List Part) → Line (shape_of i) ps → texts ps ≡ [] → ⊥

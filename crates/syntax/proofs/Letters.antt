@@ -40,11 +40,11 @@ read_done t count job s before r e h = rw e (h, refl)
 -- ---- by the letter
 
 module _ (p : Profile) where
-  pub letter-needs : (c k : ℕ) (job : Job) (out : List ℕ) → c ≡ k → Printable (length (samples p c)) job out → Printable (length (samples p k)) job out
-  letter-needs c k job out e h = rw e at h
+  pub letter_needs : (c k : ℕ) (job : Job) (out : List ℕ) → c ≡ k → Printable (length (samples p c)) job out → Printable (length (samples p k)) job out
+  letter_needs c k job out e h = rw e at h
 
-  pub letter-gives : (c k : ℕ) (job : Job) (s before after : List ℕ) (r : Done) → c ≡ k → WithRows (samples p k) job s before after r → WithRows (samples p c) job s before after r
-  letter-gives c k job s before after r e w = rw e w
+  pub letter_gives : (c k : ℕ) (job : Job) (s before after : List ℕ) (r : Done) → c ≡ k → WithRows (samples p k) job s before after r → WithRows (samples p c) job s before after r
+  letter_gives c k job s before after r e w = rw e w
 
 -- what the default knows
 abbrev Misses : Type 0 → List ℕ → ℕ → Type 0

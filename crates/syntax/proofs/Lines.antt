@@ -1,24 +1,24 @@
 -- A line is taken exactly when its shape has it, in one way, and where none goes on, the column is right.
-use Prim.Native.Nat.{ℕ, zero, suc, ◌+◌, ◌-◌, ◌<◌, ◌≤◌}
+use Prim.Native.Nat.{ℕ, suc, ◌+◌, ◌-◌, ◌<◌, ◌≤◌}
 use native.Mathlib.Omega.{arith}
 use native.Mathlib.Numerals.{add-one}
 use mathlib.Core.Path.{◌≡◌, refl, sym, ap, ◌∙◌, subst}
-use mathlib.Core.Bool.{Bool, true, false, not, ◌&&◌, ◌||◌}
-use mathlib.Core.List.{List, [], ◌∷◌, ◌++◌, append_assoc, append-nil}
-use borrow.Author.Tests.{eqb-true, eqb-false, eq-eqb, ne_eqb, not-true}
+use mathlib.Core.Bool.{Bool, true, false, ◌||◌}
+use mathlib.Core.List.{List, [], ◌∷◌, ◌++◌, append_assoc}
+use borrow.Author.Tests.{eqb-true, eqb-false, eq-eqb, not-true}
 use lib.Dec.{eqb}
 use lib.ListN.{length, get_or, drop, take, length-append, length-drop, take-append-drop}
-use lib.Seq.{drop_at, drop-append-le, take_at, take-suc, split_at, length-take-le, take-append-add}
-use Rattle.expr.specs.Grammar.{Expr, InE, textE, pick, is_digit, all_digits, in-only, in_one, in-num}
+use lib.Seq.{drop_at, drop-append-le, take-suc, split_at, length-take-le, take-append-add}
+use Rattle.expr.specs.Grammar.{pick, is_digit, all_digits, in_only, in_one, in_num}
 use Rattle.expr.specs.Scan.{Out, scan, start}
 use Rattle.expr.proofs.Numbers.{taken}
 use Rattle.expr.proofs.Cases.{and_true, clash}
-use Rattle.expr.proofs.Complete.{head_of, Stops, stops_end, taken_all}
+use Rattle.expr.proofs.Complete.{head_of, stops_end, taken_all}
 use Rattle.expr.proofs.Longest.{Follows, ended_with}
-use Rattle.expr.proofs.Sound.{Cut, Tree, Read, start_read_at}
+use Rattle.expr.proofs.Sound.{Cut, Read, start_read_at}
 use Rattle.expr.proofs.Column.{column_of, local}
 use Rattle.syntax.specs.Syntax.{Range, Item, lit, reg, zreg, num}
-use Rattle.syntax.specs.Line.{Part, byte, register, zero as lone, value, text_of, texts, Fits, fits_lit, fits-reg, fits-zreg, fits-zero, fits-num, Line, line-end, line_more, Begins}
+use Rattle.syntax.specs.Line.{Part, byte, register, zero as lone, value, text_of, texts, Fits, fits_lit, fits_reg, fits_zreg, fits_zero, fits_num, Line, line_end, line_more, Begins}
 use Rattle.syntax.specs.Take.{Took, took, none, of_out, take_number, take_reg, take_zreg, take_byte, take_item, Result, all, stopped, put, next, take_line, ends_reg, ends_num, followed, apart, well_made}
 
 -- ---- what may follow an item
@@ -37,10 +37,10 @@ follows_byte c r e =
     let d : ((is_digit true c || eqb c 120 || eqb c 42) ≡ false) × (eqb c 43 ≡ false) = or_false (is_digit true c || eqb c 120 || eqb c 42) (eqb c 43) b.0 in
     let f : ((is_digit true c || eqb c 120) ≡ false) × (eqb c 42 ≡ false) = or_false (is_digit true c || eqb c 120) (eqb c 42) d.0 in
     let g : (is_digit true c ≡ false) × (eqb c 120 ≡ false) = or_false (is_digit true c) (eqb c 120) f.0 in
-    record { stops = (g.0, eqb-false c 120 g.1); no-star = eqb-false c 42 f.1; no_sign = rw (d.1, b.1) }
+    record { stops = (g.0, eqb-false c 120 g.1); no_star = eqb-false c 42 f.1; no_sign = rw (d.1, b.1) }
 
 follows_end : Follows []
-follows_end = record { stops = stops_end; no-star = λ e. omega arith; no_sign = refl }
+follows_end = record { stops = stops_end; no_star = λ e. omega arith; no_sign = refl }
 
 end_no_digit : is_digit false 256 ≡ false
 unfolding is_digit
@@ -54,16 +54,20 @@ After (num q) r = Follows r
 
 after_reg : (xs : List Item) (ps : List Part) → followed ends_reg xs ≡ true → Line xs ps → After reg (texts ps)
 unfolding texts text_of
-after_reg [] [] e line-end = end_no_digit
+after_reg [] [] e line_end = end_no_digit
 after_reg (lit c ∷ xs) (p ∷ ps) e (line_more (fits_lit _) l) = not-true _ e
+after_reg [] (p ∷ ps) e l = elim l [ ]
+after_reg (lit c ∷ xs) [] e l = elim l [ ]
 after_reg (reg ∷ xs) ps e l = clash e
 after_reg (zreg ∷ xs) ps e l = clash e
 after_reg (num q ∷ xs) ps e l = clash e
 
 after_num : (xs : List Item) (ps : List Part) → followed ends_num xs ≡ true → Line xs ps → Follows (texts ps)
 unfolding texts text_of
-after_num [] [] e line-end = follows_end
+after_num [] [] e line_end = follows_end
 after_num (lit c ∷ xs) (p ∷ ps) e (line_more (fits_lit _) l) = follows_byte c (texts ps) e
+after_num [] (p ∷ ps) e l = elim l [ ]
+after_num (lit c ∷ xs) [] e l = elim l [ ]
 after_num (reg ∷ xs) ps e l = clash e
 after_num (zreg ∷ xs) ps e l = clash e
 after_num (num q ∷ xs) ps e l = clash e
@@ -83,18 +87,20 @@ same_took p i j e = ap (λ (n : ℕ). took p n) e
 item_complete : {x : Item} {p : Part} → Fits x p → (i : ℕ) (r : List ℕ) → After x r → take_item x i (text_of p ++ r) ≡ took p (i + length (text_of p))
 unfolding take_item take_byte take_reg take_zreg take_number text_of all_digits
 item_complete (fits_lit c) i r a = rw (eq-eqb c c refl) (same_took _ _ _ (omega arith))
-item_complete (fits-reg d ds g) i r a =
+item_complete (fits_reg d ds g) i r a =
     let b : (is_digit false d ≡ true) × (all_digits false ds ≡ true) = and_true (is_digit false d) (all_digits false ds) g in
     rw (b.0, taken_all false ds r b.1 a) (same_took _ _ _ (omega arith))
-item_complete (fits-zreg d ds g) i r a =
+item_complete (fits_zreg d ds g) i r a =
     let b : (is_digit false d ≡ true) × (all_digits false ds ≡ true) = and_true (is_digit false d) (all_digits false ds) g in
     rw (b.0, taken_all false ds r b.1 a) (same_took _ _ _ (omega arith))
-item_complete fits-zero i r a = same_took _ _ _ (omega arith)
-item_complete (fits-num y) i r a = rw (ended_with y i r a)
+item_complete fits_zero i r a = same_took _ _ _ (omega arith)
+item_complete (fits_num y) i r a = rw (ended_with y i r a)
 
 pub line_complete : (xs : List Item) (ps : List Part) → well_made xs ≡ true → Line xs ps → (i : ℕ) → take_line xs i (texts ps) ≡ all ps
 unfolding take_line texts well_made
-line_complete [] [] w line-end i = refl
+line_complete [] [] w line_end i = refl
+line_complete [] (p ∷ ps) w l i = elim l [ ]
+line_complete (x ∷ xs) [] w l i = elim l [ ]
 line_complete (x ∷ xs) (p ∷ ps) w (line_more f l) i =
     let b : (apart x xs ≡ true) × (well_made xs ≡ true) = and_true (apart x xs) (well_made xs) w in
     let n : i + length (text_of p) - i ≡ length (text_of p) = omega arith in
@@ -119,13 +125,13 @@ pub record Some (xs : List Item) : Type 0 where
   pub line : Line xs parts
 
 pub some_line : (xs : List Item) → Some xs
-some_line [] = record { parts = []; line = line-end }
+some_line [] = record { parts = []; line = line_end }
 some_line (lit c ∷ xs) = let r = some_line xs in record { parts = byte c ∷ r.parts; line = line_more (fits_lit c) r.line }
-some_line (reg ∷ xs) = let r = some_line xs in record { parts = register 48 [] ∷ r.parts; line = line_more (fits-reg 48 [] some_digit) r.line }
-some_line (zreg ∷ xs) = let r = some_line xs in record { parts = lone ∷ r.parts; line = line_more fits-zero r.line }
+some_line (reg ∷ xs) = let r = some_line xs in record { parts = register 48 [] ∷ r.parts; line = line_more (fits_reg 48 [] some_digit) r.line }
+some_line (zreg ∷ xs) = let r = some_line xs in record { parts = lone ∷ r.parts; line = line_more fits_zero r.line }
 some_line (num q ∷ xs) =
     let r = some_line xs in
-    record { parts = value _ ∷ r.parts; line = line_more (fits-num (in-only (in_one (in-num false 48 [] some_digit)))) r.line }
+    record { parts = value _ ∷ r.parts; line = line_more (fits_num (in_only (in_one (in_num false 48 [] some_digit)))) r.line }
 
 pub record BeginsItem (x : Item) (v : List ℕ) : Type 0 where
   pub part : Part
@@ -152,7 +158,7 @@ here x s i b = record { part = []; rest = s; split = refl; column = omega arith;
 
 some_reg : BeginsItem reg []
 unfolding text_of
-some_reg = record { part = register 48 []; fits = fits-reg 48 [] some_digit; rest = 114 ∷ 48 ∷ []; text = refl }
+some_reg = record { part = register 48 []; fits = fits_reg 48 [] some_digit; rest = 114 ∷ 48 ∷ []; text = refl }
 
 some_byte : (c : ℕ) → BeginsItem (lit c) []
 unfolding text_of
@@ -160,7 +166,7 @@ some_byte c = record { part = byte c; fits = fits_lit c; rest = c ∷ []; text =
 
 some_number : BeginsItem reg (114 ∷ [])
 unfolding text_of
-some_number = record { part = register 48 []; fits = fits-reg 48 [] some_digit; rest = 48 ∷ []; text = refl }
+some_number = record { part = register 48 []; fits = fits_reg 48 [] some_digit; rest = 48 ∷ []; text = refl }
 
 byte_read : (c i : ℕ) (s : List ℕ) → ItemRead (lit c) i s (take_byte c i s)
 unfolding take_byte text_of
@@ -184,7 +190,7 @@ unfolding take_number text_of all_digits
 number_read i [] = record { part = 114 ∷ []; rest = []; split = refl; column = omega arith; holds = some_number }
 number_read i (d ∷ s) =
     item_pick reg i (114 ∷ d ∷ s) (is_digit false d) _ _
-    (λ e. record { fits = fits-reg d (taken false s) (rw e (taken_digits s).0); rest = drop (length (taken false s)) s; split = ap (λ (l : List ℕ). 114 ∷ d ∷ l) (taken_digits s).1; column = omega arith })
+    (λ e. record { fits = fits_reg d (taken false s) (rw e (taken_digits s).0); rest = drop (length (taken false s)) s; split = ap (λ (l : List ℕ). 114 ∷ d ∷ l) (taken_digits s).1; column = omega arith })
     (λ e. record { part = 114 ∷ []; rest = d ∷ s; split = refl; column = omega arith; holds = some_number })
 
 reg_read : (i : ℕ) (s : List ℕ) → ItemRead reg i s (take_reg i s)
@@ -197,7 +203,10 @@ reg_read i (b ∷ s) =
 
 -- what a register gives, where a lone 0 may stand too
 wider : (p : Part) → Fits reg p → Fits zreg p
-wider (register d ds) (fits-reg _ _ g) = fits-zreg d ds g
+wider (register d ds) (fits_reg _ _ g) = fits_zreg d ds g
+wider (byte _) f = elim f [ ]
+wider lone f = elim f [ ]
+wider (value _) f = elim f [ ]
 
 widened : (i : ℕ) (s : List ℕ) (o : Took) → ItemRead reg i s o → ItemRead zreg i s o
 widened i s (took p j) t = record { fits = wider p t.fits; rest = t.rest; split = t.split; column = t.column }
@@ -207,18 +216,18 @@ widened i s (none k) c =
 
 zreg_read : (i : ℕ) (s : List ℕ) → ItemRead zreg i s (take_zreg i s)
 unfolding take_zreg text_of
-zreg_read i [] = here zreg [] i (record { part = lone; fits = fits-zero; rest = 48 ∷ []; text = refl })
+zreg_read i [] = here zreg [] i (record { part = lone; fits = fits_zero; rest = 48 ∷ []; text = refl })
 zreg_read i (b ∷ s) =
     item_pick zreg i (b ∷ s) (eqb b 48) _ _
-    (λ e. record { fits = fits-zero; rest = s; split = rw (eqb-true b 48 e); column = omega arith })
+    (λ e. record { fits = fits_zero; rest = s; split = rw (eqb-true b 48 e); column = omega arith })
     (λ e. widened i (b ∷ s) (take_reg i (b ∷ s)) (reg_read i (b ∷ s)))
 
 ex_read : (q : Range) (i : ℕ) (s : List ℕ) (o : Out) → Read [] s i o → ItemRead (num q) i s (of_out o)
 unfolding text_of
 ex_read q i s (Out.ended e n) r =
-    record { fits = fits-num r.holds.good; rest = r.rest; split = r.split ∙ ap (λ (l : List ℕ). l ++ r.rest) (sym r.holds.text); column = r.column ∙ ap (λ (l : List ℕ). i + length l) (sym r.holds.text) }
+    record { fits = fits_num r.holds.good; rest = r.rest; split = r.split ∙ ap (λ (l : List ℕ). l ++ r.rest) (sym r.holds.text); column = r.column ∙ ap (λ (l : List ℕ). i + length l) (sym r.holds.text) }
 ex_read q i s (Out.bad n) r =
-    record { part = r.part; rest = r.rest; split = r.split; column = r.column; holds = record { part = value r.holds.tree; fits = fits-num r.holds.good; rest = r.holds.rest; text = r.holds.text } }
+    record { part = r.part; rest = r.rest; split = r.split; column = r.column; holds = record { part = value r.holds.tree; fits = fits_num r.holds.good; rest = r.holds.rest; text = r.holds.text } }
 
 pub item_read : (x : Item) (i : ℕ) (s : List ℕ) → ItemRead x i s (take_item x i s)
 unfolding take_item
@@ -266,8 +275,8 @@ next_read x xs i s (none k) c f = record { part = c.part; rest = c.rest; split =
 
 pub line_read : (xs : List Item) (i : ℕ) (s : List ℕ) → LineRead xs i s (take_line xs i s)
 unfolding take_line texts
-line_read [] i [] = record { line = line-end; text = refl }
-line_read [] i (c ∷ s) = record { part = []; rest = c ∷ s; split = refl; column = omega arith; holds = record { parts = []; line = line-end; rest = []; text = refl } }
+line_read [] i [] = record { line = line_end; text = refl }
+line_read [] i (c ∷ s) = record { part = []; rest = c ∷ s; split = refl; column = omega arith; holds = record { parts = []; line = line_end; rest = []; text = refl } }
 line_read (x ∷ xs) i s = next_read x xs i s (take_item x i s) (item_read x i s) (λ j r. line_read xs j r)
 
 -- ---- what is answered at a column hangs on the bytes up to it alone
@@ -278,64 +287,64 @@ column_t (none k) = k
 
 taken_local : (h : Bool) (u : List ℕ) (c : ℕ) (v w : List ℕ) → length (taken h (u ++ (c ∷ v))) ≤ length u → taken h (u ++ (c ∷ w)) ≡ taken h (u ++ (c ∷ v))
 unfolding taken
-taken_local h [] c v w l = none-case (is_digit h c) l
+taken_local h [] c v w l = none_case (is_digit h c) l
   where
-    none-case : (b : Bool) → length (pick b (c ∷ taken h v) []) ≤ 0 → pick b (c ∷ taken h w) [] ≡ pick b (c ∷ taken h v) []
-    none-case true l = let z : ⊥ = omega arith in absurd z
-    none-case false l = refl
-taken_local h (d ∷ u) c v w l = more-case (is_digit h d) l (λ m. taken_local h u c v w m)
+    none_case : (b : Bool) → length (pick b (c ∷ taken h v) []) ≤ 0 → pick b (c ∷ taken h w) [] ≡ pick b (c ∷ taken h v) []
+    none_case true l = let z : ⊥ = omega arith in absurd z
+    none_case false l = refl
+taken_local h (d ∷ u) c v w l = more_case (is_digit h d) l (λ m. taken_local h u c v w m)
   where
-    more-case : (b : Bool) → length (pick b (d ∷ taken h (u ++ (c ∷ v))) []) ≤ suc (length u) → (length (taken h (u ++ (c ∷ v))) ≤ length u → taken h (u ++ (c ∷ w)) ≡ taken h (u ++ (c ∷ v))) → pick b (d ∷ taken h (u ++ (c ∷ w))) [] ≡ pick b (d ∷ taken h (u ++ (c ∷ v))) []
-    more-case true l f = ap (λ (x : List ℕ). d ∷ x) (f (omega arith))
-    more-case false l f = refl
+    more_case : (b : Bool) → length (pick b (d ∷ taken h (u ++ (c ∷ v))) []) ≤ suc (length u) → (length (taken h (u ++ (c ∷ v))) ≤ length u → taken h (u ++ (c ∷ w)) ≡ taken h (u ++ (c ∷ v))) → pick b (d ∷ taken h (u ++ (c ∷ w))) [] ≡ pick b (d ∷ taken h (u ++ (c ∷ v))) []
+    more_case true l f = ap (λ (x : List ℕ). d ∷ x) (f (omega arith))
+    more_case false l f = refl
 
 number_from_lem : (i : ℕ) (s : List ℕ) → i ≤ column_t (take_number i s)
 unfolding take_number
 number_from_lem i [] = omega arith
-number_from_lem i (d ∷ s) = from-case (is_digit false d)
+number_from_lem i (d ∷ s) = from_case (is_digit false d)
   where
-    from-case : (b : Bool) → i ≤ column_t (pick b (took (register d (taken false s)) (suc i + length (taken false s))) (none i))
-    from-case true = omega arith
-    from-case false = omega arith
+    from_case : (b : Bool) → i ≤ column_t (pick b (took (register d (taken false s)) (suc i + length (taken false s))) (none i))
+    from_case true = omega arith
+    from_case false = omega arith
 
 number_local : (u : List ℕ) (c : ℕ) (v w : List ℕ) (i : ℕ) → column_t (take_number i (u ++ (c ∷ v))) ≤ i + length u → take_number i (u ++ (c ∷ w)) ≡ take_number i (u ++ (c ∷ v))
 unfolding take_number
-number_local [] c v w i l = first-case (is_digit false c) l
+number_local [] c v w i l = first_case (is_digit false c) l
   where
-    first-case : (b : Bool) → column_t (pick b (took (register c (taken false v)) (suc i + length (taken false v))) (none i)) ≤ i + 0 → pick b (took (register c (taken false w)) (suc i + length (taken false w))) (none i) ≡ pick b (took (register c (taken false v)) (suc i + length (taken false v))) (none i)
-    first-case true l = let z : ⊥ = omega arith in absurd z
-    first-case false l = refl
-number_local (d ∷ u) c v w i l = more-case (is_digit false d) l
+    first_case : (b : Bool) → column_t (pick b (took (register c (taken false v)) (suc i + length (taken false v))) (none i)) ≤ i + 0 → pick b (took (register c (taken false w)) (suc i + length (taken false w))) (none i) ≡ pick b (took (register c (taken false v)) (suc i + length (taken false v))) (none i)
+    first_case true l = let z : ⊥ = omega arith in absurd z
+    first_case false l = refl
+number_local (d ∷ u) c v w i l = more_case (is_digit false d) l
   where
-    more-case : (b : Bool) → column_t (pick b (took (register d (taken false (u ++ (c ∷ v)))) (suc i + length (taken false (u ++ (c ∷ v))))) (none i)) ≤ i + suc (length u) → pick b (took (register d (taken false (u ++ (c ∷ w)))) (suc i + length (taken false (u ++ (c ∷ w))))) (none i) ≡ pick b (took (register d (taken false (u ++ (c ∷ v)))) (suc i + length (taken false (u ++ (c ∷ v))))) (none i)
-    more-case true l = ap (λ (x : List ℕ). took (register d x) (suc i + length x)) (taken_local false u c v w (omega arith))
-    more-case false l = refl
+    more_case : (b : Bool) → column_t (pick b (took (register d (taken false (u ++ (c ∷ v)))) (suc i + length (taken false (u ++ (c ∷ v))))) (none i)) ≤ i + suc (length u) → pick b (took (register d (taken false (u ++ (c ∷ w)))) (suc i + length (taken false (u ++ (c ∷ w))))) (none i) ≡ pick b (took (register d (taken false (u ++ (c ∷ v)))) (suc i + length (taken false (u ++ (c ∷ v))))) (none i)
+    more_case true l = ap (λ (x : List ℕ). took (register d x) (suc i + length x)) (taken_local false u c v w (omega arith))
+    more_case false l = refl
 
 reg_local : (u : List ℕ) (c : ℕ) (v w : List ℕ) (i : ℕ) → column_t (take_reg i (u ++ (c ∷ v))) ≤ i + length u → take_reg i (u ++ (c ∷ w)) ≡ take_reg i (u ++ (c ∷ v))
 unfolding take_reg
-reg_local [] c v w i l = first-case (eqb c 114) l
+reg_local [] c v w i l = first_case (eqb c 114) l
   where
-    first-case : (b : Bool) → column_t (pick b (take_number (suc i) v) (none i)) ≤ i + 0 → pick b (take_number (suc i) w) (none i) ≡ pick b (take_number (suc i) v) (none i)
-    first-case true l = let z : ⊥ = omega (arith, number_from_lem (suc i) v) in absurd z
-    first-case false l = refl
-reg_local (d ∷ u) c v w i l = more-case (eqb d 114) l
+    first_case : (b : Bool) → column_t (pick b (take_number (suc i) v) (none i)) ≤ i + 0 → pick b (take_number (suc i) w) (none i) ≡ pick b (take_number (suc i) v) (none i)
+    first_case true l = let z : ⊥ = omega (arith, number_from_lem (suc i) v) in absurd z
+    first_case false l = refl
+reg_local (d ∷ u) c v w i l = more_case (eqb d 114) l
   where
-    more-case : (b : Bool) → column_t (pick b (take_number (suc i) (u ++ (c ∷ v))) (none i)) ≤ i + suc (length u) → pick b (take_number (suc i) (u ++ (c ∷ w))) (none i) ≡ pick b (take_number (suc i) (u ++ (c ∷ v))) (none i)
-    more-case true l = number_local u c v w (suc i) (omega arith)
-    more-case false l = refl
+    more_case : (b : Bool) → column_t (pick b (take_number (suc i) (u ++ (c ∷ v))) (none i)) ≤ i + suc (length u) → pick b (take_number (suc i) (u ++ (c ∷ w))) (none i) ≡ pick b (take_number (suc i) (u ++ (c ∷ v))) (none i)
+    more_case true l = number_local u c v w (suc i) (omega arith)
+    more_case false l = refl
 
 zreg_local : (u : List ℕ) (c : ℕ) (v w : List ℕ) (i : ℕ) → column_t (take_zreg i (u ++ (c ∷ v))) ≤ i + length u → take_zreg i (u ++ (c ∷ w)) ≡ take_zreg i (u ++ (c ∷ v))
 unfolding take_zreg
-zreg_local [] c v w i l = first-case (eqb c 48) l
+zreg_local [] c v w i l = first_case (eqb c 48) l
   where
-    first-case : (b : Bool) → column_t (pick b (took lone (suc i)) (take_reg i (c ∷ v))) ≤ i + 0 → pick b (took lone (suc i)) (take_reg i (c ∷ w)) ≡ pick b (took lone (suc i)) (take_reg i (c ∷ v))
-    first-case true l = refl
-    first-case false l = reg_local [] c v w i l
-zreg_local (d ∷ u) c v w i l = more-case (eqb d 48) l
+    first_case : (b : Bool) → column_t (pick b (took lone (suc i)) (take_reg i (c ∷ v))) ≤ i + 0 → pick b (took lone (suc i)) (take_reg i (c ∷ w)) ≡ pick b (took lone (suc i)) (take_reg i (c ∷ v))
+    first_case true l = refl
+    first_case false l = reg_local [] c v w i l
+zreg_local (d ∷ u) c v w i l = more_case (eqb d 48) l
   where
-    more-case : (b : Bool) → column_t (pick b (took lone (suc i)) (take_reg i (d ∷ u ++ (c ∷ v)))) ≤ i + suc (length u) → pick b (took lone (suc i)) (take_reg i (d ∷ u ++ (c ∷ w))) ≡ pick b (took lone (suc i)) (take_reg i (d ∷ u ++ (c ∷ v)))
-    more-case true l = refl
-    more-case false l = reg_local (d ∷ u) c v w i l
+    more_case : (b : Bool) → column_t (pick b (took lone (suc i)) (take_reg i (d ∷ u ++ (c ∷ v)))) ≤ i + suc (length u) → pick b (took lone (suc i)) (take_reg i (d ∷ u ++ (c ∷ w))) ≡ pick b (took lone (suc i)) (take_reg i (d ∷ u ++ (c ∷ v)))
+    more_case true l = refl
+    more_case false l = reg_local (d ∷ u) c v w i l
 
 column_of_lem : (o : Out) → column_t (of_out o) ≡ column_of o
 column_of_lem (Out.ended e n) = refl

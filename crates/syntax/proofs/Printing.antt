@@ -156,13 +156,13 @@ module _ (out₀ row : List ℕ) (fields : Queue) where
         let ends : at + 0 ≡ length (printed (pattern_of row) fields) = rw e at g.ends in
         (omega arith, rw e at g.writes)
 
-    pub gone-end : length row ≤ j → (at ≡ length (printed (pattern_of row) fields)) × (out ≡ sets out₀ 0 (printed (pattern_of row) fields))
+    pub gone_end : length row ≤ j → (at ≡ length (printed (pattern_of row) fields)) × (out ≡ sets out₀ 0 (printed (pattern_of row) fields))
     unfolding pattern_of
-    gone-end h = gone (rw (drop_of_length-le row h))
+    gone_end h = gone (rw (drop_of_length-le row h))
 
-    pub gone-stop : j < length row → get_or row j 0 ≡ 59 → (at ≡ length (printed (pattern_of row) fields)) × (out ≡ sets out₀ 0 (printed (pattern_of row) fields))
+    pub gone_stop : j < length row → get_or row j 0 ≡ 59 → (at ≡ length (printed (pattern_of row) fields)) × (out ≡ sets out₀ 0 (printed (pattern_of row) fields))
     unfolding pattern_of
-    gone-stop h e = gone (rw (drop-cons row j 0 h, e))
+    gone_stop h e = gone (rw (drop-cons row j 0 h, e))
 
     -- an item more
     pub item_room : j < length row → (get_or row j 0 ≡ 59 → ⊥) → at + wide_item (item_at (get_or row j 0)) ≤ length out

@@ -1,21 +1,21 @@
 -- The rows of a letter: each stands for its instruction, and the furthest of their columns is where no line of any goes on.
-use Prim.Native.Nat.{ℕ, zero, suc, ◌+◌, ◌-◌, ◌*◌, ◌≤◌, ◌<◌}
+use Prim.Native.Nat.{ℕ, zero, suc, ◌+◌, ◌*◌, ◌≤◌, ◌<◌}
 use native.Mathlib.Omega.{arith}
 use native.Mathlib.Nat.{zero-add}
 use mathlib.Core.Path.{◌≡◌, refl, sym, ap, ◌∙◌, subst}
 use mathlib.Core.Bool.{Bool, true, false, not, ◌&&◌, ◌||◌}
 use mathlib.Core.Logic.{◌⊎◌, inl, inr, ⊎_elim}
-use mathlib.Core.List.{List, [], ◌∷◌, ◌++◌}
+use mathlib.Core.List.{List, [], ◌∷◌}
 use borrow.Author.Tests.{ltb-true, ltb-false, eqb-true, eqb-false, leb-true, not-true}
 use lib.Dec.{eqb, ltb, leb}
 use lib.ListN.{length, get_or}
 use Rattle.expr.specs.Grammar.{pick}
-use Rattle.expr.proofs.Cases.{split_lt, split_eq, and_true, or_true, clash}
+use Rattle.expr.proofs.Cases.{split_eq, and_true, or_true, clash}
 use Rattle.insn.specs.Valid.{valid_of}
 use Rattle.insn.specs.Write.{word_of}
 use Rattle.insn.specs.declared.instr.Instr.{Instr}
 use Rattle.syntax.specs.Syntax.{Range, signed, unsigned, target, frame, Item, lit, reg, zreg, num, shape_of, plain}
-use Rattle.syntax.specs.Line.{Part, byte, Line, line-end, line_more, fits_lit, texts, text_of}
+use Rattle.syntax.specs.Line.{Part, Line, line_end, line_more, fits_lit, texts, text_of}
 use Rattle.syntax.specs.Take.{Result, all, stopped, take_line, well_made}
 use Rattle.syntax.specs.Inside.{pattern_at, word_at, eq_item, eq_items, kind_of, limit_of, eq_range, operand_count, wide, well_formed, row_matches, matches_from, matches, no_operands, gathered, spot_with, spot_of, larger, tried, rows_from}
 use Rattle.syntax.specs.declared.line.Operands.{Operands}
@@ -122,11 +122,11 @@ rows_length is t e = let b : (leb (length is * 28) (length t) ≡ true) × (matc
 -- what one row says of a line
 spot_stopped : (xs : List Item) (s : List ℕ) (k : ℕ) → spot_of xs s ≡ Spot.Bad k → take_line xs 0 s ≡ stopped k
 unfolding spot_of
-spot_stopped xs s k e = stopped-case (take_line xs 0 s) e
+spot_stopped xs s k e = stopped_case (take_line xs 0 s) e
   where
-    stopped-case : (r : Result) → spot_with xs no_operands 0 r ≡ Spot.Bad k → r ≡ stopped k
-    stopped-case (all ps) e = let z : ◌≡◌ {A = ℕ} 0 1 = cc in let y : ⊥ = omega arith in absurd y
-    stopped-case (stopped j) e = let q : j ≡ k = cc in ap stopped q
+    stopped_case : (r : Result) → spot_with xs no_operands 0 r ≡ Spot.Bad k → r ≡ stopped k
+    stopped_case (all ps) e = let z : ◌≡◌ {A = ℕ} 0 1 = cc in let y : ⊥ = omega arith in absurd y
+    stopped_case (stopped j) e = let q : j ≡ k = cc in ap stopped q
 
 pub record Fits (xs : List Item) (s : List ℕ) (o : Operands) : Type 0 where
   pub parts : List Part
@@ -135,14 +135,14 @@ pub record Fits (xs : List Item) (s : List ℕ) (o : Operands) : Type 0 where
 
 spot_whole : (xs : List Item) (s : List ℕ) (o : Operands) → spot_of xs s ≡ Spot.Whole o → Fits xs s o
 unfolding spot_of
-spot_whole xs s o e = whole-case (take_line xs 0 s) refl e
+spot_whole xs s o e = whole_case (take_line xs 0 s) refl e
   where
-    whole-case : (r : Result) → take_line xs 0 s ≡ r → spot_with xs no_operands 0 r ≡ Spot.Whole o → Fits xs s o
-    whole-case (all ps) q e = record { parts = ps; takes = q; operands = sym (same _ _ e) }
+    whole_case : (r : Result) → take_line xs 0 s ≡ r → spot_with xs no_operands 0 r ≡ Spot.Whole o → Fits xs s o
+    whole_case (all ps) q e = record { parts = ps; takes = q; operands = sym (same _ _ e) }
       where
         same : (a b : Operands) → Spot.Whole a ≡ Spot.Whole b → a ≡ b
         same a b e = cc
-    whole-case (stopped j) q e = let z : ◌≡◌ {A = ℕ} 0 1 = cc in let y : ⊥ = omega arith in absurd y
+    whole_case (stopped j) q e = let z : ◌≡◌ {A = ℕ} 0 1 = cc in let y : ⊥ = omega arith in absurd y
 
 pub record Stopped (t : List ℕ) (n : ℕ) (s : List ℕ) (k : ℕ) : Type 0 where
   pub column : ℕ
@@ -243,16 +243,22 @@ differ (num r ∷ xs) ys = false
 pub differ_texts : (xs ys : List Item) (ps qs : List Part) → differ xs ys ≡ true → Line xs ps → Line ys qs → texts ps ≡ texts qs → ⊥
 unfolding differ texts text_of
 differ_texts [] [] ps qs d l m e = clash d
-differ_texts [] (lit b ∷ ys) [] (q ∷ qs) d line-end (line_more (fits_lit _) m) e = let z : ◌≡◌ {A = ℕ} 0 1 = cc in omega arith
+differ_texts [] (lit b ∷ ys) [] (q ∷ qs) d line_end (line_more (fits_lit _) m) e = let z : ◌≡◌ {A = ℕ} 0 1 = cc in omega arith
+differ_texts [] (lit b ∷ ys) [] [] d l m e = elim m [ ]
+differ_texts [] (lit b ∷ ys) (p ∷ ps) qs d l m e = elim l [ ]
 differ_texts [] (reg ∷ ys) ps qs d l m e = clash d
 differ_texts [] (zreg ∷ ys) ps qs d l m e = clash d
 differ_texts [] (num r ∷ ys) ps qs d l m e = clash d
-differ_texts (lit a ∷ xs) [] (p ∷ ps) [] d (line_more (fits_lit _) l) line-end e = let z : ◌≡◌ {A = ℕ} 0 1 = cc in omega arith
+differ_texts (lit a ∷ xs) [] (p ∷ ps) [] d (line_more (fits_lit _) l) line_end e = let z : ◌≡◌ {A = ℕ} 0 1 = cc in omega arith
 differ_texts (lit a ∷ xs) (lit b ∷ ys) (p ∷ ps) (q ∷ qs) d (line_more (fits_lit _) l) (line_more (fits_lit _) m) e =
     ⊎_elim
     (λ n. let z : a ≡ b = cc in eqb-false a b (not-true (eqb a b) n) z)
     (λ n. differ_texts xs ys ps qs n l m (cc))
     (or_true (not (eqb a b)) (differ xs ys) d)
+differ_texts (lit a ∷ xs) [] [] qs d l m e = elim l [ ]
+differ_texts (lit a ∷ xs) [] (p ∷ ps) (q ∷ qs) d l m e = elim m [ ]
+differ_texts (lit a ∷ xs) (lit b ∷ ys) [] qs d l m e = elim l [ ]
+differ_texts (lit a ∷ xs) (lit b ∷ ys) (p ∷ ps) [] d l m e = elim m [ ]
 differ_texts (lit a ∷ xs) (reg ∷ ys) ps qs d l m e = clash d
 differ_texts (lit a ∷ xs) (zreg ∷ ys) ps qs d l m e = clash d
 differ_texts (lit a ∷ xs) (num r ∷ ys) ps qs d l m e = clash d

@@ -1,19 +1,19 @@
 -- The code's loops, against a row and over the rows.
-use Prim.Native.Nat.{ℕ, zero, suc, ◌+◌, ◌-◌, ◌*◌, ◌%◌, ◌≤◌, ◌<◌}
+use Prim.Native.Nat.{ℕ, suc, ◌+◌, ◌-◌, ◌≤◌, ◌<◌}
 use native.Mathlib.Omega.{arith}
 use native.Mathlib.Numerals.{add-one}
-use mathlib.Core.Path.{◌≡◌, refl, sym, ap, ◌∙◌, subst}
+use mathlib.Core.Path.{◌≡◌, refl, sym, ap, ◌∙◌}
 use mathlib.Core.Bool.{Bool, true, false}
-use mathlib.Core.List.{List, [], ◌∷◌, ◌++◌}
+use mathlib.Core.List.{List, [], ◌∷◌}
 use borrow.Author.Tests.{eqb-true, eqb-false, eq-eqb, ne_eqb, le-ltb}
-use lib.Dec.{eqb, ltb}
-use lib.ListN.{length, get_or, drop, take, length-append, length-drop, drop_of_length-le}
+use lib.Dec.{eqb}
+use lib.ListN.{length, get_or, drop, length-append, length-drop, drop_of_length-le}
 use lib.Arith.{lt_of_le-ne}
 use lib.Seq.{drop-cons, drop-drop}
-use Rattle.expr.specs.Grammar.{Expr, pick, is_digit}
-use Rattle.expr.specs.Evaluate.{evalE, digits_value, base, digit_of}
-use Rattle.expr.specs.Scan.{AtE, St, Out, scan, start, step, step_closed, finish, finish_e, usedE}
-use Rattle.expr.specs.Reads.{byte_at, from, ExprRead, expr_reads, want_e}
+use Rattle.expr.specs.Grammar.{pick, is_digit}
+use Rattle.expr.specs.Evaluate.{digits_value}
+use Rattle.expr.specs.Scan.{AtE, St, Out, step, step_closed, finish, finish_e, used_e}
+use Rattle.expr.specs.Reads.{byte_at, expr_reads, want_e}
 use Rattle.expr.specs.Digits.{digits_from}
 use Rattle.expr.specs.declared.Reading.{Reading}
 use Rattle.expr.specs.declared.Value.{Value}
@@ -22,16 +22,16 @@ use Rattle.expr.proofs.Bytes.{stop, head_at}
 use Rattle.expr.proofs.Numbers.{taken, digits_ended, digits_any}
 use Rattle.expr.proofs.Literal.{inside}
 use Rattle.syntax.specs.Syntax.{Range, Item, lit, reg, zreg, num}
-use Rattle.syntax.specs.Line.{Part, byte, register, zero as lone, value, text_of}
+use Rattle.syntax.specs.Line.{Part, register, zero as lone, text_of}
 use Rattle.syntax.specs.Worth.{below, code_of, field_of}
 use Rattle.syntax.specs.Take.{Took, took, none, of_out, take_number, take_reg, take_zreg, take_byte, take_item, Result, all, stopped, put, next, take_line}
-use Rattle.syntax.specs.Inside.{range_of, is_operand, operand_at, pushed, step_of, item_at, pattern_of, pattern_at, row_at, word_at, push_on, gathered, spot_with, spot_of, finish_of, no_operands, larger, tried, rows_from}
+use Rattle.syntax.specs.Inside.{range_of, is_operand, operand_at, pushed, step_of, item_at, pattern_of, pattern_at, word_at, push_on, gathered, spot_with, spot_of, finish_of, larger, rows_from}
 use Rattle.syntax.specs.declared.field.Field.{Field}
 use Rattle.syntax.specs.declared.item.Step.{Step}
 use Rattle.syntax.specs.declared.line.Operands.{Operands}
 use Rattle.syntax.specs.declared.line.Spot.{Spot}
 use Rattle.syntax.specs.declared.table.Done.{Done}
-use Rattle.syntax.proofs.Lines.{Taken, ItemRead, item_read}
+use Rattle.syntax.proofs.Lines.{ItemRead, item_read}
 
 -- a step that went on, and one that did not
 abbrev pub went : ℕ → Field → Step
@@ -42,11 +42,11 @@ stuck k = record { end = k; bad = true; field = Field.Unfit }
 
 -- expressions
 pub num_bad : (r : Range) (s : List ℕ) (at k : ℕ) → expr_reads s at at 16 want_e (Reading.Bad k) → step_of (num r) at (take_item (num r) at (drop at s)) ≡ stuck k
-unfolding expr_reads usedE take_item
+unfolding expr_reads used_e take_item
 num_bad r s at k h = ap (λ (o : Out). step_of (num r) at (of_out o)) (h AtE.top refl)
 
 pub num_read : (r : Range) (s : List ℕ) (at e : ℕ) (v : Value) → expr_reads s at at 16 want_e (Reading.Read e v) → step_of (num r) at (take_item (num r) at (drop at s)) ≡ went e (code_of r v)
-unfolding expr_reads usedE step step_closed finish finish_e take_item
+unfolding expr_reads used_e step step_closed finish finish_e take_item
 num_read r s at e v x = ap (λ (o : Out). step_of (num r) at (of_out o)) (x.goes AtE.top refl ∙ stop s e (St.closed AtE.top x.tree) refl) ∙ ap (λ (w : Value). went e (code_of r w)) (sym x.value)
 
 -- a byte of the row
@@ -87,10 +87,10 @@ no_number s i e d = ap (step_of reg i) (reg_goes s i e ∙ number_list (i + 1) (
 number_goes : (i k : ℕ) (cs : List ℕ) → is_digit false (get_or cs 0 256) ≡ true → step_of reg k (take_number i cs) ≡ went (i + length (taken false cs)) (below 32 (digits_value false 0 (taken false cs)))
 unfolding take_number taken is_digit
 number_goes i k [] e = let z : ◌≡◌ {A = ℕ} 0 1 = cc in let y : ⊥ = omega arith in absurd y
-number_goes i k (d ∷ cs) e = number-case e
+number_goes i k (d ∷ cs) e = number_case e
   where
-    number-case : is_digit false d ≡ true → step_of reg k (pick (is_digit false d) (took (register d (taken false cs)) (suc i + length (taken false cs))) (none i)) ≡ went (i + length (pick (is_digit false d) (d ∷ taken false cs) [])) (below 32 (digits_value false 0 (pick (is_digit false d) (d ∷ taken false cs) [])))
-    number-case e = rw e (ap (λ (x : ℕ). went x (below 32 (digits_value false 0 (d ∷ taken false cs)))) (omega arith))
+    number_case : is_digit false d ≡ true → step_of reg k (pick (is_digit false d) (took (register d (taken false cs)) (suc i + length (taken false cs))) (none i)) ≡ went (i + length (pick (is_digit false d) (d ∷ taken false cs) [])) (below 32 (digits_value false 0 (pick (is_digit false d) (d ∷ taken false cs) [])))
+    number_case e = rw e (ap (λ (x : ℕ). went x (below 32 (digits_value false 0 (d ∷ taken false cs)))) (omega arith))
 
 pub reg_step : (s : List ℕ) (i : ℕ) (r : Run) → byte_at s i ≡ 114 → is_digit false (byte_at s (i + 1)) ≡ true → r ≡ digits_from false 0 (i + 1) (drop (i + 1) s) → step_of reg i (take_item reg i (drop i s)) ≡ went r.end (below 32 r.value)
 unfolding take_item

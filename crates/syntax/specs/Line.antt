@@ -2,7 +2,7 @@
 use Rattle.std.specs.Prelude.{ℕ, ◌≡◌, true, false, List, [], ◌∷◌, ◌++◌}
 use Rattle.insn.specs.declared.profile.Profile.{Profile}
 use Rattle.insn.specs.declared.instr.Instr.{Instr}
-use Rattle.expr.specs.Grammar.{Expr, InE, textE, all_digits}
+use Rattle.expr.specs.Grammar.{Expr, InE, text_e, all_digits}
 use Rattle.syntax.specs.Syntax.{Range, Item, lit, reg, zreg, num, spelled_on, shape_of}
 
 -- a byte; r and digits; a lone 0; an expression
@@ -16,7 +16,7 @@ unfoldable pub text_of : Part → List ℕ
 text_of (byte c) = c ∷ []
 text_of (register d ds) = 114 ∷ d ∷ ds
 text_of zero = 48 ∷ []
-text_of (value e) = textE e
+text_of (value e) = text_e e
 
 unfoldable pub texts : List Part → List ℕ
 texts [] = []
@@ -25,13 +25,13 @@ texts (p ∷ ps) = text_of p ++ texts ps
 -- brackets and minuses nest 16 deep at most
 pub data Fits : Item → Part → Type 0 where
   fits_lit : (c : ℕ) → Fits (lit c) (byte c)
-  fits-reg : (d : ℕ) (ds : List ℕ) → all_digits false (d ∷ ds) ≡ true → Fits reg (register d ds)
-  fits-zreg : (d : ℕ) (ds : List ℕ) → all_digits false (d ∷ ds) ≡ true → Fits zreg (register d ds)
-  fits-zero : Fits zreg zero
-  fits-num : {r : Range} {e : Expr} → InE 16 e → Fits (num r) (value e)
+  fits_reg : (d : ℕ) (ds : List ℕ) → all_digits false (d ∷ ds) ≡ true → Fits reg (register d ds)
+  fits_zreg : (d : ℕ) (ds : List ℕ) → all_digits false (d ∷ ds) ≡ true → Fits zreg (register d ds)
+  fits_zero : Fits zreg zero
+  fits_num : {r : Range} {e : Expr} → InE 16 e → Fits (num r) (value e)
 
 pub data Line : List Item → List Part → Type 0 where
-  line-end : Line [] []
+  line_end : Line [] []
   line_more : {x : Item} {p : Part} {xs : List Item} {ps : List Part} → Fits x p → Line xs ps → Line (x ∷ xs) (p ∷ ps)
 
 -- some line of the shape begins so

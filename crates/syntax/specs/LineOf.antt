@@ -1,8 +1,8 @@
 -- The line that is written for an instruction: registers as r and their number, numbers in decimal, for (RA|0) with r0 a lone 0 (docs/DECISIONS.md D41).
-use Rattle.std.specs.Prelude.{ℕ, zero, suc, ◌+◌, ◌-◌, ◌*◌, ◌/◌, ◌%◌, true, false, List, [], ◌∷◌, ◌++◌, eqb, ltb}
+use Rattle.std.specs.Prelude.{ℕ, zero, suc, ◌+◌, ◌-◌, ◌*◌, ◌/◌, ◌%◌, List, [], ◌∷◌, ◌++◌, eqb, ltb}
 use Rattle.insn.specs.declared.instr.Instr.{Instr}
 use Rattle.expr.specs.Grammar.{pick}
-use Rattle.syntax.specs.Syntax.{Range, signed, unsigned, target, frame, Piece, letter, gpr, gprOr0, number, written}
+use Rattle.syntax.specs.Syntax.{Range, signed, unsigned, target, frame, Piece, letter, gpr, gpr_or0, number, written}
 
 -- a number in decimal, its last k digits at most
 unfoldable pub decimal : ℕ → ℕ → List ℕ
@@ -29,7 +29,7 @@ base_text n = pick (eqb n 0) (48 ∷ []) (register_text n)
 abbrev pub piece_text : Piece → List ℕ
 piece_text (letter c) = c ∷ []
 piece_text (gpr n) = register_text n
-piece_text (gprOr0 n) = base_text n
+piece_text (gpr_or0 n) = base_text n
 piece_text (number r n) = number_text r n
 
 unfoldable pub piece_texts : List Piece → List ℕ

@@ -14,7 +14,6 @@ use Rattle.insn.specs.declared.instr.Branch.{Branch}
 use Rattle.insn.specs.declared.instr.System.{System}
 use Rattle.insn.specs.declared.instr.ArithImmOp.{ArithImmOp}
 use Rattle.insn.specs.declared.instr.SprOp.{SprOp}
-use Rattle.insn.specs.declared.instr.CacheOp.{CacheOp}
 use Rattle.insn.specs.declared.instr.Sign.{Sign}
 use Rattle.syntax.specs.Text.{bytes}
 use Rattle.syntax.specs.Names.{arith_imm_name, arith_name, arith_one_name, multiply_name, logic_imm_name, logic_name, logic_one_name, compare_imm_name, compare_name, rotate_name, rotate_double_name, shift_name, load_name, load_indexed_name, store_name, store_indexed_name, load_double_name, store_double_name, stack_name, branch_name, move_name, cache_name}
@@ -38,7 +37,7 @@ pub data Item : Type 0 where
 pub data Piece : Type 0 where
   letter : ℕ → Piece
   gpr : ℕ → Piece
-  gprOr0 : ℕ → Piece
+  gpr_or0 : ℕ → Piece
   number : Range → ℕ → Piece
 
 -- the operands by their names in 9.4
@@ -77,12 +76,12 @@ abbrev pub R : ℕ → List Piece
 R n = gpr n ∷ []
 
 abbrev pub RA0 : ℕ → List Piece
-RA0 n = gprOr0 n ∷ []
+RA0 n = gpr_or0 n ∷ []
 
 -- D(RA), which an update form reads as (RA) and the others as (RA|0)
 abbrev pub D : Bool → ℕ → ℕ → List Piece
 D true d ra = number (signed 0x8000) d ∷ letter 40 ∷ gpr ra ∷ letter 41 ∷ []
-D false d ra = number (signed 0x8000) d ∷ letter 40 ∷ gprOr0 ra ∷ letter 41 ∷ []
+D false d ra = number (signed 0x8000) d ∷ letter 40 ∷ gpr_or0 ra ∷ letter 41 ∷ []
 
 -- DD(RA), where the offset is in bytes
 abbrev pub DD : ℕ → ℕ → List Piece
@@ -203,7 +202,7 @@ spelled_on p (Instr.Cache op hint ra rb) = true
 abbrev pub item_of : Piece → Item
 item_of (letter c) = lit c
 item_of (gpr n) = reg
-item_of (gprOr0 n) = zreg
+item_of (gpr_or0 n) = zreg
 item_of (number r n) = num r
 
 unfoldable pub items_of : List Piece → List Item

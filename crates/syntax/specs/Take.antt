@@ -1,6 +1,6 @@
 -- A line taken item by item. For the contracts of private functions; the grammar itself is in Line.
-use Rattle.std.specs.Prelude.{ℕ, zero, suc, ◌+◌, ◌-◌, Bool, true, false, not, ◌&&◌, ◌||◌, List, [], ◌∷◌, ◌++◌, eqb, length, drop}
-use Rattle.expr.specs.Grammar.{Expr, pick, is_digit}
+use Rattle.std.specs.Prelude.{ℕ, suc, ◌+◌, ◌-◌, Bool, true, false, not, ◌&&◌, ◌||◌, List, [], ◌∷◌, eqb, length, drop}
+use Rattle.expr.specs.Grammar.{pick, is_digit}
 use Rattle.expr.specs.Scan.{Out, scan, start}
 use Rattle.expr.proofs.Numbers.{taken}
 use Rattle.syntax.specs.Syntax.{Item, lit, reg, zreg, num}

@@ -1,9 +1,9 @@
 -- What the operands of a line hold: the contents of their fields (Power ISA 2.07, instruction fields), or why they have none (C-12).
-use Rattle.std.specs.Prelude.{ℕ, ◌+◌, ◌-◌, ◌*◌, ◌/◌, ◌%◌, Bool, true, false, List, [], ◌∷◌, eqb, ltb, length}
+use Rattle.std.specs.Prelude.{ℕ, ◌+◌, ◌-◌, ◌*◌, ◌/◌, ◌%◌, false, List, [], ◌∷◌, eqb, ltb, length}
 use Rattle.expr.specs.Grammar.{pick}
-use Rattle.expr.specs.Evaluate.{evalE, digits_value}
+use Rattle.expr.specs.Evaluate.{eval_e, digits_value}
 use Rattle.expr.specs.declared.Value.{Value}
-use Rattle.syntax.specs.Syntax.{Range, signed, unsigned, target, frame, Item, lit, reg, zreg, num, Piece, letter, gpr, gprOr0, number}
+use Rattle.syntax.specs.Syntax.{Range, signed, unsigned, target, frame, Item, lit, reg, zreg, num, Piece, letter, gpr, gpr_or0, number}
 use Rattle.syntax.specs.Line.{Part, byte, register, zero, value, text_of}
 use Rattle.syntax.specs.declared.field.Field.{Field}
 
@@ -48,7 +48,7 @@ register_field (byte c) = Field.Unfit
 register_field (value e) = Field.Unfit
 
 abbrev pub number_field : Range → ℕ → Part → Field
-number_field r i (value e) = code_of r (evalE e i)
+number_field r i (value e) = code_of r (eval_e e i)
 number_field r i (byte c) = Field.Unfit
 number_field r i (register d ds) = Field.Unfit
 number_field r i zero = Field.Unfit
@@ -77,7 +77,7 @@ unfoldable pub codes : List Piece → List ℕ
 codes [] = []
 codes (letter c ∷ ps) = codes ps
 codes (gpr n ∷ ps) = n ∷ codes ps
-codes (gprOr0 n ∷ ps) = n ∷ codes ps
+codes (gpr_or0 n ∷ ps) = n ∷ codes ps
 codes (number r n ∷ ps) = n ∷ codes ps
 
 unfoldable pub all_codes : List ℕ → List Field

@@ -6,7 +6,7 @@ ghost use Rattle.syntax.specs.Inside.{range_of};
 use expr::Value;
 
 // Its contents; none, since the operand does not fit; or the column of the first value outside -2^31 to 2^31 - 1.
-#[derive(Drop)]
+#[derive(Clone, Copy)]
 pub enum Field {
     Code(u32),
     Unfit,

@@ -9,7 +9,7 @@ use crate::field::{Field, below_limit, number_code};
 use expr::byte_at;
 
 // Where the item ends, or the column where no line goes on; and what an operand's field holds.
-#[derive(Drop)]
+#[derive(Clone, Copy)]
 pub struct Step {
     pub end: usize,
     pub bad: bool,

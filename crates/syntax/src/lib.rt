@@ -1,4 +1,6 @@
 // The syntax lines of 9.4: a line's row in their table and its operands, read, and printed.
+#![tactic(auto)]
+
 pub mod field;
 pub mod item;
 pub mod line;

@@ -6,7 +6,7 @@ use crate::field::Field;
 use crate::item::{is_operand, take};
 
 // The operands of a line: a is the last, b the one before it.
-#[derive(Drop)]
+#[derive(Clone, Copy)]
 pub struct Operands {
     pub a: Field,
     pub b: Field,
@@ -16,7 +16,7 @@ pub struct Operands {
 }
 
 // The whole line, or the column where no line of the row goes on.
-#[derive(Drop)]
+#[derive(Clone, Copy)]
 pub enum Spot {
     Whole(Operands),
     Bad(usize),

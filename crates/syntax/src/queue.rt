@@ -3,7 +3,7 @@ ghost use Rattle.std.specs.Prelude.{◌≡◌};
 ghost use Rattle.syntax.specs.Inside.{next_of};
 
 // The next operand's field is a.
-#[derive(Drop)]
+#[derive(Clone, Copy)]
 pub struct Queue {
     pub a: u32,
     pub b: u32,

@@ -8,7 +8,7 @@ ghost use Rattle.insn.specs.declared.instr.Instr.{Instr};
 use insn::instr::*;
 use word::width::Width;
 
-#[derive(Drop)]
+#[derive(Clone, Copy)]
 pub struct Row {
     pub letter: u8,
     pub row: usize,

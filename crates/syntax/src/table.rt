@@ -16,7 +16,7 @@ use crate::row::Row;
 use insn::profile::Profile;
 
 // What is done with the rows of a letter: a line is read, or a row printed.
-#[derive(Drop)]
+#[derive(Clone, Copy)]
 pub enum Job {
     Read,
     Print(usize, Queue),
@@ -24,7 +24,7 @@ pub enum Job {
 
 // The word of the row that has the line, and the line's operands; the column where no line of any row goes on; or how many
 // bytes were printed.
-#[derive(Drop)]
+#[derive(Clone, Copy)]
 pub enum Done {
     Row(u32, Operands),
     Bad(usize),

@@ -1,0 +1,37 @@
+use mathlib.Core.Path.{refl}
+use Rattle.insn.specs.Valid.{reg_of, is_spr, read_only}
+use Rattle.expr.specs.Grammar.{is_digit}
+use Rattle.expr.specs.Evaluate.{digit_of}
+use Rattle.expr.specs.Digits.{digits_from, grown}
+use Rattle.insn.specs.declared.profile.Profile.{Profile}
+use Rattle.syntax.specs.Text.{bytes}
+use Rattle.syntax.specs.Syntax.{letters, commas, spelt, items_of, shape_of}
+use Rattle.syntax.specs.Take.{apart, well_made}
+use Rattle.syntax.specs.Rows.{samples_s}
+use Rattle.syntax.specs.Inside.{range_of, operand_at, item_at, pattern_of, pattern_at, word_at, eq_items, operand_count, wide, well_formed, row_matches, matches_from, matches}
+use Rattle.syntax.proofs.Letters.{rows_fit}
+use Rattle.syntax.proofs.table.rows_of_s.Goals as goal
+
+pub work-requires-clause-count_in_bounds : goal.work-requires-clause-count_in_bounds
+unfolding samples_s matches matches_from row_matches well_formed pattern_at pattern_of item_at operand_at range_of word_at digits_from grown is_digit digit_of eq_items operand_count wide well_made apart shape_of items_of spelt commas letters bytes reg_of is_spr read_only
+work-requires-clause-count_in_bounds c = rows_fit (samples_s Profile.Ppe42) _ refl
+
+pub work-requires-clause-printable : goal.work-requires-clause-printable
+unfolding samples_s
+work-requires-clause-printable c = rw c.in-Ppe42.is at c.requires
+
+pub work-requires-in-Ppe42x-clause-count_in_bounds : goal.work-requires-in-Ppe42x-clause-count_in_bounds
+unfolding samples_s matches matches_from row_matches well_formed pattern_at pattern_of item_at operand_at range_of word_at digits_from grown is_digit digit_of eq_items operand_count wide well_made apart shape_of items_of spelt commas letters bytes reg_of is_spr read_only
+work-requires-in-Ppe42x-clause-count_in_bounds c = rows_fit (samples_s Profile.Ppe42x) _ refl
+
+pub work-requires-in-Ppe42x-clause-printable : goal.work-requires-in-Ppe42x-clause-printable
+unfolding samples_s
+work-requires-in-Ppe42x-clause-printable c = rw c.in-Ppe42x.is at c.requires
+
+pub returns-in-Ppe42 : goal.returns-in-Ppe42
+unfolding samples_s matches matches_from row_matches well_formed pattern_at pattern_of item_at operand_at range_of word_at digits_from grown is_digit digit_of eq_items operand_count wide well_made apart shape_of items_of spelt commas letters bytes reg_of is_spr read_only
+returns-in-Ppe42 c = rw c.in-Ppe42.is (record { rows = _; right = refl; done = c.work.ensures.0; out = c.work.ensures.1 })
+
+pub returns-in-Ppe42x : goal.returns-in-Ppe42x
+unfolding samples_s matches matches_from row_matches well_formed pattern_at pattern_of item_at operand_at range_of word_at digits_from grown is_digit digit_of eq_items operand_count wide well_made apart shape_of items_of spelt commas letters bytes reg_of is_spr read_only
+returns-in-Ppe42x c = rw c.in-Ppe42x.is (record { rows = _; right = refl; done = c.work-in-Ppe42x.ensures.0; out = c.work-in-Ppe42x.ensures.1 })
