@@ -18,7 +18,7 @@ use Rattle.machine.specs.declared.refusal.Refusal.{Refusal}
 use Rattle.capture.specs.Read.{size_of, read_refusal, part_of}
 use Rattle.capture.proofs.Checks.{read_accepts}
 use Rattle.capture.specs.Write.{write_refusal, written_of}
-use Rattle.srecord.specs.Write.{write_refusal as srecRefusal, written_of as srecWritten}
+use Rattle.srecord.specs.Write.{write_refusal as srec_refusal, written_of as srec_written}
 
 -- a refusal's number leaves the first bit of an answer free
 pub number_small : (r : Refusal) → number_of r ≤ 17
@@ -59,14 +59,14 @@ pub bytes_small : (p : Profile) (s : State) (m out : List ℕ) → (written_of p
 unfolding written_of
 bytes_small p s m out = written_small p (accepts_of (write_refusal p s (length m) (length out))) s (length m) (length out) refl
 
-srec_cases : (b : Bool) (m n : ℕ) → accepts_of (srecRefusal m n) ≡ b → pick b (79 * (m / 32) + 15) 0 < 2 ^ 32
-unfolding srecRefusal
+srec_cases : (b : Bool) (m n : ℕ) → accepts_of (srec_refusal m n) ≡ b → pick b (79 * (m / 32) + 15) 0 < 2 ^ 32
+unfolding srec_refusal
 srec_cases true m n e =
     let a = or_accepts (unless (sized_of m) Refusal.Memory) _ e in
     let h = sized_bounds m (unless_accepts (sized_of m) Refusal.Memory refl a.0) in
     omega arith
 srec_cases false m n e = lit< tt
 
-pub srec_small : (m out : List ℕ) → (srecWritten m out).bytes < 2 ^ 32
-unfolding srecWritten
-srec_small m out = srec_cases (accepts_of (srecRefusal (length m) (length out))) (length m) (length out) refl
+pub srec_small : (m out : List ℕ) → (srec_written m out).bytes < 2 ^ 32
+unfolding srec_written
+srec_small m out = srec_cases (accepts_of (srec_refusal (length m) (length out))) (length m) (length out) refl

@@ -4,7 +4,7 @@ use Rattle.memory.specs.Access.{pick}
 use Rattle.insn.specs.declared.profile.Profile.{Profile}
 use Rattle.machine.specs.declared.refusal.Refusal.{Refusal}
 use Rattle.capture.specs.Read.{read_of, part_of}
-use Rattle.capture.specs.Write.{written_of as captureWritten, out_of}
+use Rattle.capture.specs.Write.{written_of as capture_written, out_of}
 use Rattle.abi.specs.Answer.{answer_of, is_state, lent_state}
 
 -- M is the length of the memory part, which is empty where the capture is refused
@@ -13,7 +13,7 @@ check_answer p file = answer_of (read_of p file).refusal (length (part_of p file
 
 unfoldable pub write_answer : Profile → List ℕ → List ℕ → List ℕ → ℕ
 write_answer p s m out =
-    let w = captureWritten p (lent_state s) m out in
+    let w = capture_written p (lent_state s) m out in
     pick (is_state s) (answer_of w.refusal w.bytes) (answer_of Refusal.Capture 0)
 
 unfoldable pub write_out : Profile → List ℕ → List ℕ → List ℕ → List ℕ

@@ -1,4 +1,6 @@
 // The C functions that run until a stop, declared in include/ppe42.h.
+#![tactic(auto)]
+
 ghost use Rattle.std.specs.Prelude.{◌≡◌};
 ghost use Rattle.insn.specs.declared.profile.Profile.{Profile};
 ghost use Rattle.abi_until.specs.Runs.{until_answer, until_state, until_lent};
@@ -8,8 +10,7 @@ use insn::profile::Profile;
 pub mod runs; // runs.rt: over a state of lent bytes
 
 // A run that ends with the first step that leaves IAR at a stop.
-#[unsafe(no_mangle)]
-pub extern "C" fn ppe42_run_until(
+pub fn ppe42_run_until(
     state: &mut [u8],
     memory: &mut [u8],
     events: &[u8],
@@ -22,8 +23,7 @@ pub extern "C" fn ppe42_run_until(
 }
 
 // The same of a 42X.
-#[unsafe(no_mangle)]
-pub extern "C" fn ppe42x_run_until(
+pub fn ppe42x_run_until(
     state: &mut [u8],
     memory: &mut [u8],
     events: &[u8],
