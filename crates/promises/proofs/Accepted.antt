@@ -38,7 +38,7 @@ use Rattle.machine.proofs.Refusals.{accepts_none, or_accepts}
 use Rattle.machine.proofs.Frames.{part_length}
 use Rattle.run.specs.Run.{Ran, run_of}
 use Rattle.run.specs.Outcome.{run_refusal}
-use Rattle.promises.proofs.Sound.{Sound, picked, accepted_sound, sound-accepted, next-sound, entered-sound, interrupted-sound, ticked-sound, acted-sound, arithmetic-sound, logical-sound, compare-sound, rotate-sound, branch-sound, trap-sound, system-sound, loaded-sound, loaded-double-sound, stored-sound, cleared-sound, framed-sound, part_sound}
+use Rattle.promises.proofs.Sound.{Sound, picked, accepted_sound, sound_accepted, next_sound, entered_sound, interrupted_sound, ticked_sound, acted_sound, arithmetic_sound, logical_sound, compare_sound, rotate_sound, branch_sound, trap_sound, system_sound, loaded_sound, loaded_double_sound, stored_sound, cleared_sound, framed_sound, part_sound}
 
 -- from a state and a memory to others: a sound state stays sound, and the memory keeps its length
 pub record Kept (p : Profile) (s : State) (m : List ℕ) (t : State) (x : List ℕ) : Type 0 where
@@ -58,92 +58,92 @@ Left p s m a = Kept p s m a.st a.mem
 -- lsku and stsku: one access after the other
 part_left : (p : Profile) (s : State) (m : List ℕ) (store : Bool) (a : ℕ) (k : Access) (rest : After) → Left p s m rest → Left p s m (goes_on p s m store a k rest)
 part_left p s m store a Access.Served rest l = l
-part_left p s m store a Access.Unaligned rest l = untouched (λ k. interrupted-sound k (Cause.Alignment a store))
-part_left p s m store a Access.Outside rest l = untouched (λ k. interrupted-sound k (Cause.DataStorage a store))
+part_left p s m store a Access.Unaligned rest l = untouched (λ k. interrupted_sound k (Cause.Alignment a store))
+part_left p s m store a Access.Outside rest l = untouched (λ k. interrupted_sound k (Cause.DataStorage a store))
 
 framed_left : (p : Profile) (op : StackOp) (ra sp ea : ℕ) (xs : List Part) (s : State) (m : List ℕ) → Left p s m (framed_of p op ra sp ea xs s m)
 unfolding framed_of
-framed_left p op ra sp ea [] s m = untouched (λ k. framed-sound k ra ea (scratch_of op sp ea))
+framed_left p op ra sp ea [] s m = untouched (λ k. framed_sound k ra ea (scratch_of op sp ea))
 framed_left p op ra sp ea (x ∷ xs) s m =
     part_left p s m (stores_of op) (address_of x) (access_of (length m) (address_of x) (size_of x)) _
     (chain (record { st = λ k. part_sound k op ra x m; mem = part_length op ra x s m }) (framed_left p op ra sp ea xs (state_after op ra x s m) (memory_after op ra x s m)))
 
 module _ (p : Profile) (s : State) (m : List ℕ) where
-  stack-left : (op : StackOp) (ra dd : ℕ) → Left p s m (stack_of p s m op ra dd)
+  stack_left : (op : StackOp) (ra dd : ℕ) → Left p s m (stack_of p s m op ra dd)
   unfolding stack_of
-  stack-left op ra dd = picked (Left p s m) (aligned_of (gpr_of s ra) 8) (framed_left p op ra _ _ _ s m) (untouched (λ k. interrupted-sound k (Cause.Alignment (gpr_of s ra) (stores_of op))))
+  stack_left op ra dd = picked (Left p s m) (aligned_of (gpr_of s ra) 8) (framed_left p op ra _ _ _ s m) (untouched (λ k. interrupted_sound k (Cause.Alignment (gpr_of s ra) (stores_of op))))
 
-  load-left : (w : Width) (rt ea : ℕ) (update : Bool) (ra : ℕ) → Left p s m (load_at p s m w rt ea update ra)
+  load_left : (w : Width) (rt ea : ℕ) (update : Bool) (ra : ℕ) → Left p s m (load_at p s m w rt ea update ra)
   unfolding load_at
-  load-left w rt ea update ra = untouched (λ k. loaded-sound k (load_of m ea w) rt update ra ea)
+  load_left w rt ea update ra = untouched (λ k. loaded_sound k (load_of m ea w) rt update ra ea)
 
-  store-left : (w : Width) (rs ea : ℕ) (update : Bool) (ra : ℕ) → Left p s m (store_at p s m w rs ea update ra)
+  store_left : (w : Width) (rs ea : ℕ) (update : Bool) (ra : ℕ) → Left p s m (store_at p s m w rs ea update ra)
   unfolding store_at
-  store-left w rs ea update ra =
-      record { st = λ k. stored-sound k (access_of (length m) ea (bytes w)) update ra ea; mem = stored_length m ea w (gpr_of s rs) }
+  store_left w rs ea update ra =
+      record { st = λ k. stored_sound k (access_of (length m) ea (bytes w)) update ra ea; mem = stored_length m ea w (gpr_of s rs) }
 
-  load-double-left : (dt ea : ℕ) (update : Bool) (ra : ℕ) → Left p s m (load_double_at p s m dt ea update ra)
+  load_double_left : (dt ea : ℕ) (update : Bool) (ra : ℕ) → Left p s m (load_double_at p s m dt ea update ra)
   unfolding load_double_at
-  load-double-left dt ea update ra = untouched (λ k. loaded-double-sound k (load_double_of m ea) dt update ra ea)
+  load_double_left dt ea update ra = untouched (λ k. loaded_double_sound k (load_double_of m ea) dt update ra ea)
 
-  store-double-left : (ds ea : ℕ) (update : Bool) (ra : ℕ) → Left p s m (store_double_at p s m ds ea update ra)
+  store_double_left : (ds ea : ℕ) (update : Bool) (ra : ℕ) → Left p s m (store_double_at p s m ds ea update ra)
   unfolding store_double_at
-  store-double-left ds ea update ra =
-      record { st = λ k. stored-sound k (access_of (length m) ea 8) update ra ea; mem = stored_double_length m ea (vdr_of s ds) }
+  store_double_left ds ea update ra =
+      record { st = λ k. stored_sound k (access_of (length m) ea 8) update ra ea; mem = stored_double_length m ea (vdr_of s ds) }
 
-  clear-left : (ea : ℕ) → Left p s m (clear_at p s m ea)
+  clear_left : (ea : ℕ) → Left p s m (clear_at p s m ea)
   unfolding clear_at
-  clear-left ea = record { st = λ k. cleared-sound k (access_of (length m) (block_at ea) 32) ea; mem = cleared_length m ea }
+  clear_left ea = record { st = λ k. cleared_sound k (access_of (length m) (block_at ea) 32) ea; mem = cleared_length m ea }
 
-  load-store-left : (i : LoadStore) → Left p s m (load_store_of p s m i)
+  load_store_left : (i : LoadStore) → Left p s m (load_store_of p s m i)
   unfolding load_store_of
-  load-store-left (LoadStore.Load w update rt ra d) = load-left w rt _ update ra
-  load-store-left (LoadStore.LoadIndexed w rt ra rb) = load-left w rt _ false ra
-  load-store-left (LoadStore.Store w update rs ra d) = store-left w rs _ update ra
-  load-store-left (LoadStore.StoreIndexed w rs ra rb) = store-left w rs _ false ra
-  load-store-left (LoadStore.LoadDouble update dt ra d) = load-double-left dt _ update ra
-  load-store-left (LoadStore.StoreDouble update ds ra d) = store-double-left ds _ update ra
+  load_store_left (LoadStore.Load w update rt ra d) = load_left w rt _ update ra
+  load_store_left (LoadStore.LoadIndexed w rt ra rb) = load_left w rt _ false ra
+  load_store_left (LoadStore.Store w update rs ra d) = store_left w rs _ update ra
+  load_store_left (LoadStore.StoreIndexed w rs ra rb) = store_left w rs _ false ra
+  load_store_left (LoadStore.LoadDouble update dt ra d) = load_double_left dt _ update ra
+  load_store_left (LoadStore.StoreDouble update ds ra d) = store_double_left ds _ update ra
 
-  cache-left : (op : CacheOp) (ra rb : ℕ) → Left p s m (cache_of p s m op ra rb)
+  cache_left : (op : CacheOp) (ra rb : ℕ) → Left p s m (cache_of p s m op ra rb)
   unfolding cache_of
-  cache-left CacheOp.Dcbf ra rb = untouched next-sound
-  cache-left CacheOp.Dcbi ra rb = untouched next-sound
-  cache-left CacheOp.Dcbt ra rb = untouched next-sound
-  cache-left CacheOp.Dcbz ra rb = clear-left _
+  cache_left CacheOp.Dcbf ra rb = untouched next_sound
+  cache_left CacheOp.Dcbi ra rb = untouched next_sound
+  cache_left CacheOp.Dcbt ra rb = untouched next_sound
+  cache_left CacheOp.Dcbz ra rb = clear_left _
 
-  execute-left : (w : ℕ) (i : Instr) → Left p s m (execute_of p s m w i)
+  execute_left : (w : ℕ) (i : Instr) → Left p s m (execute_of p s m w i)
   unfolding execute_of
-  execute-left w (Instr.Arithmetic i) = untouched (λ k. arithmetic-sound k i)
-  execute-left w (Instr.Logical i) = untouched (λ k. logical-sound k i)
-  execute-left w (Instr.Compare i) = untouched (λ k. compare-sound k i)
-  execute-left w (Instr.Rotate i) = untouched (λ k. rotate-sound k i)
-  execute-left w (Instr.LoadStore i) = load-store-left i
-  execute-left w (Instr.Stack dd op rt ra) = stack-left op ra dd
-  execute-left w (Instr.Branch i) = untouched (λ k. branch-sound k i)
-  execute-left w (Instr.Trap to ra rb tg) = untouched (λ k. trap-sound k w to tg)
-  execute-left w (Instr.System i) = untouched (λ k. system-sound k i)
-  execute-left w (Instr.Cache op hint ra rb) = cache-left op ra rb
+  execute_left w (Instr.Arithmetic i) = untouched (λ k. arithmetic_sound k i)
+  execute_left w (Instr.Logical i) = untouched (λ k. logical_sound k i)
+  execute_left w (Instr.Compare i) = untouched (λ k. compare_sound k i)
+  execute_left w (Instr.Rotate i) = untouched (λ k. rotate_sound k i)
+  execute_left w (Instr.LoadStore i) = load_store_left i
+  execute_left w (Instr.Stack dd op rt ra) = stack_left op ra dd
+  execute_left w (Instr.Branch i) = untouched (λ k. branch_sound k i)
+  execute_left w (Instr.Trap to ra rb tg) = untouched (λ k. trap_sound k w to tg)
+  execute_left w (Instr.System i) = untouched (λ k. system_sound k i)
+  execute_left w (Instr.Cache op hint ra rb) = cache_left op ra rb
 
-  decoded-left : (w : ℕ) (d : Decoded) → Left p s m (decoded_of p s m w d)
-  decoded-left w (Decoded.Insn i) = execute-left w i
-  decoded-left w Decoded.Illegal = untouched (λ k. interrupted-sound k (Cause.Program w false))
+  decoded_left : (w : ℕ) (d : Decoded) → Left p s m (decoded_of p s m w d)
+  decoded_left w (Decoded.Insn i) = execute_left w i
+  decoded_left w Decoded.Illegal = untouched (λ k. interrupted_sound k (Cause.Program w false))
 
-  fetched-left : (l : Loaded) → Left p s m (fetched_of p s m l)
-  fetched-left (Loaded.Value w) = decoded-left w (decode_on p w)
-  fetched-left Loaded.Unaligned = untouched (λ k. interrupted-sound k Cause.InstructionStorage)
-  fetched-left Loaded.Outside = untouched (λ k. interrupted-sound k Cause.InstructionStorage)
+  fetched_left : (l : Loaded) → Left p s m (fetched_of p s m l)
+  fetched_left (Loaded.Value w) = decoded_left w (decode_on p w)
+  fetched_left Loaded.Unaligned = untouched (λ k. interrupted_sound k Cause.InstructionStorage)
+  fetched_left Loaded.Outside = untouched (λ k. interrupted_sound k Cause.InstructionStorage)
 
-  interruptible-left : (q : Pending) → Left p s m (interruptible_of p s m q)
+  interruptible_left : (q : Pending) → Left p s m (interruptible_of p s m q)
   unfolding awake_of running_of
-  interruptible-left (Pending.Take v) = untouched (λ k. entered-sound k v)
-  interruptible-left Pending.Nothing = picked (Left p s m) (bit_at s.msr 13) (untouched (λ k. k)) (fetched-left (fetch_of m s.iar))
+  interruptible_left (Pending.Take v) = untouched (λ k. entered_sound k v)
+  interruptible_left Pending.Nothing = picked (Left p s m) (bit_at s.msr 13) (untouched (λ k. k)) (fetched_left (fetch_of m s.iar))
 
 step_left : (p : Profile) (s : State) (m : List ℕ) (e : ℕ) → Left p s m (step_of p s m e)
 unfolding step_of counted_of
 step_left p s m e =
     let t = ticked_of s e in
-    let turned = picked (Left p t m) (acts_of s e) (untouched acted-sound) (interruptible-left p t m (highest_of t e)) in
-    picked (Left p s m) (eqb s.halt 0) (chain (untouched (λ k. ticked-sound k e)) turned) (untouched (λ k. k))
+    let turned = picked (Left p t m) (acts_of s e) (untouched acted_sound) (interruptible_left p t m (highest_of t e)) in
+    picked (Left p s m) (eqb s.halt 0) (chain (untouched (λ k. ticked_sound k e)) turned) (untouched (λ k. k))
 
 run_left : (p : Profile) (n i : ℕ) (ev : List ℕ) (s : State) (m : List ℕ) → Kept p s m (run_of p n i ev s m).st (run_of p n i ev s m).mem
 unfolding run_of
@@ -156,7 +156,7 @@ run_left p (suc n) i ev s m =
 
 -- a step from an accepted state leaves an accepted state
 pub step_accepted : (p : Profile) (s : State) (m : List ℕ) (e : ℕ) → refusal_of p s ≡ Refusal.None → refusal_of p (step_of p s m e).st ≡ Refusal.None
-step_accepted p s m e h = sound-accepted ((step_left p s m e).st (accepted_sound s h))
+step_accepted p s m e h = sound_accepted ((step_left p s m e).st (accepted_sound s h))
 
 -- from any state, a step keeps the memory's length
 pub step_length : (p : Profile) (s : State) (m : List ℕ) (e : ℕ) → length (step_of p s m e).mem ≡ length m
@@ -171,19 +171,19 @@ second_none a b h = rw (first_none a b h) at h
 
 module _ (p : Profile) (n i : ℕ) (ev : List ℕ) (s : State) (m : List ℕ) where
   -- so does a run
-  pub run-accepted : refusal_of p s ≡ Refusal.None → refusal_of p (run_of p n i ev s m).st ≡ Refusal.None
-  run-accepted h = sound-accepted ((run_left p n i ev s m).st (accepted_sound s h))
+  pub run_accepted : refusal_of p s ≡ Refusal.None → refusal_of p (run_of p n i ev s m).st ≡ Refusal.None
+  run_accepted h = sound_accepted ((run_left p n i ev s m).st (accepted_sound s h))
 
   -- from any state, a run keeps the memory's length
   pub run_length : length (run_of p n i ev s m).mem ≡ length m
   run_length = (run_left p n i ev s m).mem
 
   -- a state and a memory that are accepted are accepted as a run left them
-  pub start-again : start_refusal p s (length m) ≡ Refusal.None → start_refusal p (run_of p n i ev s m).st (length (run_of p n i ev s m).mem) ≡ Refusal.None
+  pub start_again : start_refusal p s (length m) ≡ Refusal.None → start_refusal p (run_of p n i ev s m).st (length (run_of p n i ev s m).mem) ≡ Refusal.None
   unfolding start_refusal
-  start-again h =
+  start_again h =
       let e : refusal_of p s ≡ Refusal.None = second_none (unless (sized_of (length m)) Refusal.Memory) (refusal_of p s) h in
-      rw (run_length, run-accepted e) (rw e at h)
+      rw (run_length, run_accepted e) (rw e at h)
 
 -- a budget and events that are accepted with a state and a memory are accepted with what any run from there left
 pub run_again : (p : Profile) (n : ℕ) (ev : List ℕ) (s : State) (m : List ℕ) (ev' : List ℕ) (budget : ℕ) → run_refusal p s m ev' budget ≡ Refusal.None
@@ -191,4 +191,4 @@ pub run_again : (p : Profile) (n : ℕ) (ev : List ℕ) (s : State) (m : List �
 unfolding run_refusal
 run_again p n ev s m ev' budget h =
     let e : start_refusal p s (length m) ≡ Refusal.None = first_none (start_refusal p s (length m)) _ h in
-    rw (start-again p n 0 ev s m e) (rw e at h)
+    rw (start_again p n 0 ev s m e) (rw e at h)

@@ -46,44 +46,44 @@ out_not true = refl
 out_not false = refl
 
 module _ {d : ℕ} where
-  out-bit : {w : ℕ} → Clean d w → (i : ℕ) → (bit_at w i && bit_at (inv d) i) ≡ false
-  out-bit {w} c i =
+  out_bit : {w : ℕ} → Clean d w → (i : ℕ) → (bit_at w i && bit_at (inv d) i) ≡ false
+  out_bit {w} c i =
       sym (bit_and_lem w (inv d) i) ∙ ap (λ (x : ℕ). bit_at x i) c.none ∙ ap (λ (x : ℕ). eqb (x % 2) 1) (zero-div (2 ^ (31 - i)))
 
   by_bits : (w : ℕ) → ((i : ℕ) → i < 32 → (bit_at w i && bit_at (inv d) i) ≡ false) → Clean d w
   by_bits w f =
       record { none = no_bits (bit_and w (inv d)) (lt_of_le_of_lt (and_le_r w (inv d)) (omega arith)) (λ i l. bit_and_lem w (inv d) i ∙ f i l) }
 
-  pub clean-or : {a b : ℕ} → Clean d a → Clean d b → Clean d (bit_or a b)
-  clean-or {a} {b} h k =
-      by_bits (bit_or a b) (λ i l. rw (bit_or_lem a b i) (out_or (bit_at a i) (bit_at b i) (bit_at (inv d) i) (out-bit h i) (out-bit k i)))
+  pub clean_or : {a b : ℕ} → Clean d a → Clean d b → Clean d (bit_or a b)
+  clean_or {a} {b} h k =
+      by_bits (bit_or a b) (λ i l. rw (bit_or_lem a b i) (out_or (bit_at a i) (bit_at b i) (bit_at (inv d) i) (out_bit h i) (out_bit k i)))
 
-  pub clean-and : {a : ℕ} → Clean d a → (b : ℕ) → Clean d (bit_and a b)
-  clean-and {a} h b =
-      by_bits (bit_and a b) (λ i l. rw (bit_and_lem a b i) (out_and (bit_at a i) (bit_at b i) (bit_at (inv d) i) (out-bit h i)))
+  pub clean_and : {a : ℕ} → Clean d a → (b : ℕ) → Clean d (bit_and a b)
+  clean_and {a} h b =
+      by_bits (bit_and a b) (λ i l. rw (bit_and_lem a b i) (out_and (bit_at a i) (bit_at b i) (bit_at (inv d) i) (out_bit h i)))
 
-  clean-under : (a : ℕ) {b : ℕ} → Clean d b → Clean d (bit_and a b)
-  clean-under a {b} h = rw (and_comm a b) (clean-and h a)
+  clean_under : (a : ℕ) {b : ℕ} → Clean d b → Clean d (bit_and a b)
+  clean_under a {b} h = rw (and_comm a b) (clean_and h a)
 
-  clean-self : Clean d d
-  clean-self =
+  clean_self : Clean d d
+  clean_self =
       split d (2 ^ 32) (λ h. by_bits d (λ i l. rw (bit_inv d i h l) (out_not (bit_at d i))))
       (λ h. let z : inv d ≡ 0 = omega arith in record { none = rw z (and_zero_r d) })
 
   -- reserved bits dropped
-  pub clean-defined : (v : ℕ) → Clean d (bit_and v d)
-  clean-defined v = clean-under v clean-self
+  pub clean_defined : (v : ℕ) → Clean d (bit_and v d)
+  clean_defined v = clean_under v clean_self
 
   -- a field of defined bits, written
-  pub clean-put : {w : ℕ} (i j v : ℕ) → bit_and (mask i j) (inv d) ≡ 0 → Clean d w → Clean d (put_at w i j v)
+  pub clean_put : {w : ℕ} (i j v : ℕ) → bit_and (mask i j) (inv d) ≡ 0 → Clean d w → Clean d (put_at w i j v)
   unfolding put_at
-  clean-put i j v h c = clean-or (clean-under (field_at i j v) (record { none = h })) (clean-and c (inv (mask i j)))
+  clean_put i j v h c = clean_or (clean_under (field_at i j v) (record { none = h })) (clean_and c (inv (mask i j)))
 
   -- where the reserved bits are the last j
-  pub clean-last : (j w : ℕ) → inv d ≡ 2 ^ j - 1 → w % 2 ^ j ≡ 0 → Clean d w
-  clean-last j w e h = record { none = rw e (and_mask w j ∙ h) }
+  pub clean_last : (j w : ℕ) → inv d ≡ 2 ^ j - 1 → w % 2 ^ j ≡ 0 → Clean d w
+  clean_last j w e h = record { none = rw e (and_mask w j ∙ h) }
 
 -- where more bits are defined
 pub clean_wider : (c d : ℕ) {w : ℕ} → bit_and (inv c) (inv d) ≡ inv d → Clean c w → Clean d w
 clean_wider c d {w} h k =
-    by_bits w (λ i l. ap (λ (x : ℕ). bit_at w i && bit_at x i) (sym h) ∙ rw (bit_and_lem (inv c) (inv d) i) (out_more (bit_at w i) (bit_at (inv c) i) (bit_at (inv d) i) (out-bit k i)))
+    by_bits w (λ i l. ap (λ (x : ℕ). bit_at w i && bit_at x i) (sym h) ∙ rw (bit_and_lem (inv c) (inv d) i) (out_more (bit_at w i) (bit_at (inv c) i) (bit_at (inv d) i) (out_bit k i)))

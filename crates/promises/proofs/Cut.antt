@@ -21,17 +21,17 @@ use Rattle.run.specs.declared.outcome.Outcome.{Outcome}
 
 -- one step: `go` tells that the core runs, `met` that the step meets the test, and `rest` that a later one does
 module _ (go met rest : Bool) (f : ℕ → Ran) (k : ℕ) (halted : Ran) where
-  turn-same : (full : Ran) → pick go (pick met true rest) false ≡ false → (rest ≡ false → f k ≡ full) → pick go (f (pick met 0 k)) halted ≡ pick go full halted
-  turn-same full h g = by go met h
+  turn_same : (full : Ran) → pick go (pick met true rest) false ≡ false → (rest ≡ false → f k ≡ full) → pick go (f (pick met 0 k)) halted ≡ pick go full halted
+  turn_same full h g = by go met h
     where
       by : (go met : Bool) → pick go (pick met true rest) false ≡ false → pick go (f (pick met 0 k)) halted ≡ pick go full halted
       by false met h = refl
       by true true h = never h
       by true false h = g h
 
-  turn-steps : (i : ℕ) → pick go (pick met true rest) false ≡ true → (f 0).steps ≡ suc i → (rest ≡ true → (f k).steps ≡ suc i + k)
+  turn_steps : (i : ℕ) → pick go (pick met true rest) false ≡ true → (f 0).steps ≡ suc i → (rest ≡ true → (f k).steps ≡ suc i + k)
       → (pick go (f (pick met 0 k)) halted).steps ≡ i + suc (pick met 0 k)
-  turn-steps i h e g = by go met h
+  turn_steps i h e g = by go met h
     where
       by : (go met : Bool) → pick go (pick met true rest) false ≡ true → (pick go (f (pick met 0 k)) halted).steps ≡ i + suc (pick met 0 k)
       by false met h = never (sym h)
@@ -57,10 +57,10 @@ one_less k = omega arith
 
 module _ (p : Profile) (test : After → Bool) where
   -- whether a step meets the test, with n steps of the budget left and i taken
-  unfoldable pub metOf : ℕ → ℕ → List ℕ → State → List ℕ → Bool
-  metOf zero i ev s m = false
-  metOf (suc n) i ev s m =
-      let r = metOf n (suc i) ev (step_of p s m (get_or ev i 0)).st (step_of p s m (get_or ev i 0)).mem in
+  unfoldable pub met_of : ℕ → ℕ → List ℕ → State → List ℕ → Bool
+  met_of zero i ev s m = false
+  met_of (suc n) i ev s m =
+      let r = met_of n (suc i) ev (step_of p s m (get_or ev i 0)).st (step_of p s m (get_or ev i 0)).mem in
       pick (eqb s.halt 0) (pick (test (step_of p s m (get_or ev i 0))) true r) false
 
   -- a budget of n, cut at the first step that does
@@ -70,57 +70,57 @@ module _ (p : Profile) (test : After → Bool) where
       let r = cut_of n (suc i) ev (step_of p s m (get_or ev i 0)).st (step_of p s m (get_or ev i 0)).mem in
       suc (pick (test (step_of p s m (get_or ev i 0))) 0 r)
 
-  pub cut-within : (n i : ℕ) (ev : List ℕ) (s : State) (m : List ℕ) → cut_of n i ev s m ≤ n
+  pub cut_within : (n i : ℕ) (ev : List ℕ) (s : State) (m : List ℕ) → cut_of n i ev s m ≤ n
   unfolding cut_of
-  cut-within zero i ev s m = omega arith
-  cut-within (suc n) i ev s m =
+  cut_within zero i ev s m = omega arith
+  cut_within (suc n) i ev s m =
       let a = step_of p s m (get_or ev i 0) in
-      turn_within (test a) (cut_of n (suc i) ev a.st a.mem) n (cut-within n (suc i) ev a.st a.mem)
+      turn_within (test a) (cut_of n (suc i) ev a.st a.mem) n (cut_within n (suc i) ev a.st a.mem)
 
   -- where none does, the budget is not cut before the run's end
-  run-same : (n i : ℕ) (ev : List ℕ) (s : State) (m : List ℕ) → metOf n i ev s m ≡ false → run_of p (cut_of n i ev s m) i ev s m ≡ run_of p n i ev s m
-  unfolding metOf run_of cut_of
-  run-same zero i ev s m h = refl
-  run-same (suc n) i ev s m h =
+  run_same : (n i : ℕ) (ev : List ℕ) (s : State) (m : List ℕ) → met_of n i ev s m ≡ false → run_of p (cut_of n i ev s m) i ev s m ≡ run_of p n i ev s m
+  unfolding met_of run_of cut_of
+  run_same zero i ev s m h = refl
+  run_same (suc n) i ev s m h =
       let a = step_of p s m (get_or ev i 0) in
-      turn-same (eqb s.halt 0) (test a) (metOf n (suc i) ev a.st a.mem) (λ k. run_of p k (suc i) ev a.st a.mem) (cut_of n (suc i) ev a.st a.mem) _ _ h
-      (run-same n (suc i) ev a.st a.mem)
+      turn_same (eqb s.halt 0) (test a) (met_of n (suc i) ev a.st a.mem) (λ k. run_of p k (suc i) ev a.st a.mem) (cut_of n (suc i) ev a.st a.mem) _ _ h
+      (run_same n (suc i) ev a.st a.mem)
 
   -- where one does, every step of the cut budget is taken
-  all-taken : (n i : ℕ) (ev : List ℕ) (s : State) (m : List ℕ) → metOf n i ev s m ≡ true → (run_of p (cut_of n i ev s m) i ev s m).steps ≡ i + cut_of n i ev s m
-  unfolding metOf run_of cut_of
-  all-taken zero i ev s m h = never (sym h)
-  all-taken (suc n) i ev s m h =
+  all_taken : (n i : ℕ) (ev : List ℕ) (s : State) (m : List ℕ) → met_of n i ev s m ≡ true → (run_of p (cut_of n i ev s m) i ev s m).steps ≡ i + cut_of n i ev s m
+  unfolding met_of run_of cut_of
+  all_taken zero i ev s m h = never (sym h)
+  all_taken (suc n) i ev s m h =
       let a = step_of p s m (get_or ev i 0) in
-      turn-steps (eqb s.halt 0) (test a) (metOf n (suc i) ev a.st a.mem) (λ k. run_of p k (suc i) ev a.st a.mem) (cut_of n (suc i) ev a.st a.mem) _ i h refl
-      (all-taken n (suc i) ev a.st a.mem)
+      turn_steps (eqb s.halt 0) (test a) (met_of n (suc i) ev a.st a.mem) (λ k. run_of p k (suc i) ev a.st a.mem) (cut_of n (suc i) ev a.st a.mem) _ i h refl
+      (all_taken n (suc i) ev a.st a.mem)
 
   -- the last of them does
-  last-met : (n i : ℕ) (ev : List ℕ) (s : State) (m : List ℕ) → metOf n i ev s m ≡ true → metOf (cut_of n i ev s m) i ev s m ≡ true
-  unfolding metOf cut_of
-  last-met zero i ev s m h = h
-  last-met (suc n) i ev s m h =
+  last_met : (n i : ℕ) (ev : List ℕ) (s : State) (m : List ℕ) → met_of n i ev s m ≡ true → met_of (cut_of n i ev s m) i ev s m ≡ true
+  unfolding met_of cut_of
+  last_met zero i ev s m h = h
+  last_met (suc n) i ev s m h =
       let a = step_of p s m (get_or ev i 0) in
-      turn_met (eqb s.halt 0) (test a) (metOf n (suc i) ev a.st a.mem) (λ k. metOf k (suc i) ev a.st a.mem) (cut_of n (suc i) ev a.st a.mem) h
-      (last-met n (suc i) ev a.st a.mem)
+      turn_met (eqb s.halt 0) (test a) (met_of n (suc i) ev a.st a.mem) (λ k. met_of k (suc i) ev a.st a.mem) (cut_of n (suc i) ev a.st a.mem) h
+      (last_met n (suc i) ev a.st a.mem)
 
-  turn-before : (i : ℕ) (ev : List ℕ) (s : State) (m : List ℕ) (u : Bool) → test (step_of p s m (get_or ev i 0)) ≡ u → (k : ℕ)
-      → metOf (k - 1) (suc i) ev (step_of p s m (get_or ev i 0)).st (step_of p s m (get_or ev i 0)).mem ≡ false → metOf (pick u 0 k) i ev s m ≡ false
-  unfolding metOf
-  turn-before i ev s m true e k h = refl
-  turn-before i ev s m false e zero h = refl
-  turn-before i ev s m false e (suc k) h =
+  turn_before : (i : ℕ) (ev : List ℕ) (s : State) (m : List ℕ) (u : Bool) → test (step_of p s m (get_or ev i 0)) ≡ u → (k : ℕ)
+      → met_of (k - 1) (suc i) ev (step_of p s m (get_or ev i 0)).st (step_of p s m (get_or ev i 0)).mem ≡ false → met_of (pick u 0 k) i ev s m ≡ false
+  unfolding met_of
+  turn_before i ev s m true e k h = refl
+  turn_before i ev s m false e zero h = refl
+  turn_before i ev s m false e (suc k) h =
       let a = step_of p s m (get_or ev i 0) in
-      rw (e, ap (λ (n : ℕ). metOf n (suc i) ev a.st a.mem) (sym (one_less k)) ∙ h) (neither (eqb s.halt 0))
+      rw (e, ap (λ (n : ℕ). met_of n (suc i) ev a.st a.mem) (sym (one_less k)) ∙ h) (neither (eqb s.halt 0))
 
   -- and none before it
-  none_before : (n i : ℕ) (ev : List ℕ) (s : State) (m : List ℕ) → metOf (cut_of n i ev s m - 1) i ev s m ≡ false
-  unfolding metOf cut_of
+  none_before : (n i : ℕ) (ev : List ℕ) (s : State) (m : List ℕ) → met_of (cut_of n i ev s m - 1) i ev s m ≡ false
+  unfolding met_of cut_of
   none_before zero i ev s m = refl
   none_before (suc n) i ev s m =
       let a = step_of p s m (get_or ev i 0) in
       let k = cut_of n (suc i) ev a.st a.mem in
-      rw (one_less (pick (test a) 0 k)) (turn-before i ev s m (test a) refl k (none_before n (suc i) ev a.st a.mem))
+      rw (one_less (pick (test a) 0 k)) (turn_before i ev s m (test a) refl k (none_before n (suc i) ev a.st a.mem))
 
 same_answer : (b u : Bool) (x y : Ran) (o : Outcome) (m : List ℕ) → (u ≡ false → x ≡ y) → pick b u false ≡ false
     → (pick b (accepted x) o ≡ pick b (accepted y) o) × (pick b x.mem m ≡ pick b y.mem m)
@@ -132,29 +132,29 @@ both_true true u h = (refl, h)
 both_true false u h = never (sym h)
 
 module _ (p : Profile) (test : After → Bool) (r : Refusal) (s : State) (m ev : List ℕ) (budget : ℕ) where
-  abbrev cutRun : Ran
-  cutRun = run_of p (cut_of p test budget 0 ev s m) 0 ev s m
+  abbrev cut_run : Ran
+  cut_run = run_of p (cut_of p test budget 0 ev s m) 0 ev s m
 
   -- none met: outcome and memory are the plain run's with the whole budget
-  pub cut-is-run : pick (accepts_of r) (metOf p test budget 0 ev s m) false ≡ false
-      → (answered r s cutRun ≡ answered r s (run_of p budget 0 ev s m)) × (remembered r m cutRun ≡ remembered r m (run_of p budget 0 ev s m))
-  cut-is-run h = same_answer (accepts_of r) (metOf p test budget 0 ev s m) cutRun (run_of p budget 0 ev s m) (refused_with s r) m (run-same p test budget 0 ev s m) h
+  pub cut_is_run : pick (accepts_of r) (met_of p test budget 0 ev s m) false ≡ false
+      → (answered r s cut_run ≡ answered r s (run_of p budget 0 ev s m)) × (remembered r m cut_run ≡ remembered r m (run_of p budget 0 ev s m))
+  cut_is_run h = same_answer (accepts_of r) (met_of p test budget 0 ev s m) cut_run (run_of p budget 0 ev s m) (refused_with s r) m (run_same p test budget 0 ev s m) h
 
   -- one met: they are those of the run of as many steps as it took, the last of which met the test and none before
-  pub cut-ends-first : pick (accepts_of r) (metOf p test budget 0 ev s m) false ≡ true
-      → (let n = (answered r s cutRun).steps in
-      (answered r s cutRun ≡ accepted (run_of p n 0 ev s m)) × ((remembered r m cutRun ≡ (run_of p n 0 ev s m).mem) × ((metOf p test (n - 1) 0 ev s m ≡ false) × (metOf p test n 0 ev s m ≡ true))))
-  cut-ends-first h =
-      let t = both_true (accepts_of r) (metOf p test budget 0 ev s m) h in
+  pub cut_ends_first : pick (accepts_of r) (met_of p test budget 0 ev s m) false ≡ true
+      → (let n = (answered r s cut_run).steps in
+      (answered r s cut_run ≡ accepted (run_of p n 0 ev s m)) × ((remembered r m cut_run ≡ (run_of p n 0 ev s m).mem) × ((met_of p test (n - 1) 0 ev s m ≡ false) × (met_of p test n 0 ev s m ≡ true))))
+  cut_ends_first h =
+      let t = both_true (accepts_of r) (met_of p test budget 0 ev s m) h in
       let c = cut_of p test budget 0 ev s m in
-      let q : (run_of p c 0 ev s m).steps ≡ c = all-taken p test budget 0 ev s m t.1 ∙ zero-add c in
+      let q : (run_of p c 0 ev s m).steps ≡ c = all_taken p test budget 0 ev s m t.1 ∙ zero-add c in
       rw t.0 (
         ap (λ (k : ℕ). accepted (run_of p k 0 ev s m)) (sym q),
         (
           ap (λ (k : ℕ). (run_of p k 0 ev s m).mem) (sym q),
           (
-            ap (λ (k : ℕ). metOf p test (k - 1) 0 ev s m) q ∙ none_before p test budget 0 ev s m,
-            ap (λ (k : ℕ). metOf p test k 0 ev s m) q ∙ last-met p test budget 0 ev s m t.1,
+            ap (λ (k : ℕ). met_of p test (k - 1) 0 ev s m) q ∙ none_before p test budget 0 ev s m,
+            ap (λ (k : ℕ). met_of p test k 0 ev s m) q ∙ last_met p test budget 0 ev s m t.1,
           ),
         ),
       )

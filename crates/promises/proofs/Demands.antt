@@ -16,7 +16,7 @@ use Rattle.machine.specs.declared.state.State.{State}
 use Rattle.machine.specs.declared.refusal.Refusal.{Refusal}
 use Rattle.run.specs.Run.{Ran, run_of, past_of}
 use Rattle.run.specs.Outcome.{events_good, events_refusal, run_refusal, step_refusal, refused_with, accepted, run_outcome, run_memory, step_outcome, step_memory}
-use Rattle.run.proofs.Laws.{run-halted}
+use Rattle.run.proofs.Laws.{run_halted}
 use Rattle.promises.specs.Growth.{grown_run, NeverAlters}
 use Rattle.promises.proofs.Grow.{run_grow, run_longer}
 
@@ -110,7 +110,7 @@ never_alters p s m x ev budget more first second past =
     let g : run_of p budget 0 ev s (m ++ x) ≡ grown_run x r = run_grow p budget 0 ev s m x past in
     let on : run_of p (budget + more) 0 ev s (m ++ x) ≡ run_of p more r.steps ev r.st (r.mem ++ x) = rw (run_longer p budget more 0 ev s (m ++ x), g) refl in
     record {
-      after-as-many = as_many p s m x ev budget g;
-      goes_on_lem = on;
-      halts-there = λ h. on ∙ run-halted p ev r.st (r.mem ++ x) more r.steps h;
+      after_as_many = as_many p s m x ev budget g;
+      goes_on = on;
+      halts_there = λ h. on ∙ run_halted p ev r.st (r.mem ++ x) more r.steps h;
     }

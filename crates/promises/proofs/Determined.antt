@@ -26,11 +26,11 @@ use Rattle.run.specs.declared.lent.Answer.{Answer}
 use Rattle.run.specs.declared.reach.Reached.{Reached}
 use Rattle.until.specs.Until.{until_outcome, until_memory}
 use Rattle.capture.specs.Read.{read_of, part_of}
-use Rattle.capture.specs.Write.{written_of as captureWritten, out_of}
+use Rattle.capture.specs.Write.{written_of as capture_written, out_of}
 use Rattle.capture.specs.declared.read.Read.{Read}
 use Rattle.capture.specs.declared.write.Written.{Written as CaptureWritten}
-use Rattle.srecord.specs.File.{read_of as srecordRead, memory_of as srecordMemory}
-use Rattle.srecord.specs.Write.{written_of as srecordWritten, out_of as srecordOut}
+use Rattle.srecord.specs.File.{read_of as srecord_read, memory_of as srecord_memory}
+use Rattle.srecord.specs.Write.{written_of as srecord_written, out_of as srecord_out}
 use Rattle.srecord.specs.declared.check.Verdict.{Verdict}
 use Rattle.srecord.specs.declared.write.Written.{Written as SrecordWritten}
 use Rattle.abi.specs.Captures.{check_answer, write_answer, write_out}
@@ -59,43 +59,43 @@ pub write_determined : (p : Profile) (i : Instr) (r q : Written) → r ≡ writt
 write_determined p i r q = one
 
 module _ (p : Profile) (s : State) (m : List ℕ) where
-  pub run-determined : (ev : List ℕ) (budget : ℕ) (r q : Outcome) (m' n' : List ℕ)
+  pub run_determined : (ev : List ℕ) (budget : ℕ) (r q : Outcome) (m' n' : List ℕ)
       → (r ≡ run_outcome p s m ev budget) × (m' ≡ run_memory p s m ev budget) → (q ≡ run_outcome p s m ev budget) × (n' ≡ run_memory p s m ev budget) → (r ≡ q) × (m' ≡ n')
-  run-determined ev budget r q m' n' = two
+  run_determined ev budget r q m' n' = two
 
-  pub reach-determined : (ev : List ℕ) (budget : ℕ) (r q : Reached) (m' n' : List ℕ)
+  pub reach_determined : (ev : List ℕ) (budget : ℕ) (r q : Reached) (m' n' : List ℕ)
       → (r ≡ record { outcome = run_outcome p s m ev budget; past = run_past p s m ev budget }) × (m' ≡ run_memory p s m ev budget)
       → (q ≡ record { outcome = run_outcome p s m ev budget; past = run_past p s m ev budget }) × (n' ≡ run_memory p s m ev budget) → (r ≡ q) × (m' ≡ n')
-  reach-determined ev budget r q m' n' = two
+  reach_determined ev budget r q m' n' = two
 
-  pub inside-determined : (ev : List ℕ) (budget : ℕ) (r q : Reached) (m' n' : List ℕ)
+  pub inside_determined : (ev : List ℕ) (budget : ℕ) (r q : Reached) (m' n' : List ℕ)
       → (r ≡ record { outcome = inside_outcome p s m ev budget; past = run_past p s m ev budget }) × (m' ≡ inside_memory p s m ev budget)
       → (q ≡ record { outcome = inside_outcome p s m ev budget; past = run_past p s m ev budget }) × (n' ≡ inside_memory p s m ev budget) → (r ≡ q) × (m' ≡ n')
-  inside-determined ev budget r q m' n' = two
+  inside_determined ev budget r q m' n' = two
 
-  pub until-determined : (ev stops : List ℕ) (budget : ℕ) (r q : Outcome) (m' n' : List ℕ)
+  pub until_determined : (ev stops : List ℕ) (budget : ℕ) (r q : Outcome) (m' n' : List ℕ)
       → (r ≡ until_outcome p s m ev stops budget) × (m' ≡ until_memory p s m ev stops budget) → (q ≡ until_outcome p s m ev stops budget) × (n' ≡ until_memory p s m ev stops budget)
       → (r ≡ q) × (m' ≡ n')
-  until-determined ev stops budget r q m' n' = two
+  until_determined ev stops budget r q m' n' = two
 
-  pub step-determined : (e : ℕ) (r q : Outcome) (m' n' : List ℕ)
+  pub step_determined : (e : ℕ) (r q : Outcome) (m' n' : List ℕ)
       → (r ≡ step_outcome p s m e) × (m' ≡ step_memory p s m e) → (q ≡ step_outcome p s m e) × (n' ≡ step_memory p s m e) → (r ≡ q) × (m' ≡ n')
-  step-determined e r q m' n' = two
+  step_determined e r q m' n' = two
 
-  pub lent-determined : (e : ℕ) (r q : Answer) (s' t' : State) (m' n' : List ℕ)
+  pub lent_determined : (e : ℕ) (r q : Answer) (s' t' : State) (m' n' : List ℕ)
       → (r ≡ answer_of (step_outcome p s m e)) × ((s' ≡ (step_outcome p s m e).state) × (m' ≡ step_memory p s m e)) → (q ≡ answer_of (step_outcome p s m e)) × ((t' ≡ (step_outcome p s m e).state) × (n' ≡ step_memory p s m e))
       → (r ≡ q) × ((s' ≡ t') × (m' ≡ n'))
-  lent-determined e r q s' t' m' n' = three
+  lent_determined e r q s' t' m' n' = three
 
-  pub told-determined : (e : ℕ) (r q : Told) → r ≡ told_of p s m e → q ≡ told_of p s m e → r ≡ q
-  told-determined e r q = one
+  pub told_determined : (e : ℕ) (r q : Told) → r ≡ told_of p s m e → q ≡ told_of p s m e → r ≡ q
+  told_determined e r q = one
 
-  pub use-determined : (e : ℕ) (r q : Use) → r ≡ use_of p s m e → q ≡ use_of p s m e → r ≡ q
-  use-determined e r q = one
+  pub use_determined : (e : ℕ) (r q : Use) → r ≡ use_of p s m e → q ≡ use_of p s m e → r ≡ q
+  use_determined e r q = one
 
-  pub capture-write-determined : (out : List ℕ) (r q : CaptureWritten) (o' u' : List ℕ)
-      → (r ≡ captureWritten p s m out) × (o' ≡ out_of p s m out) → (q ≡ captureWritten p s m out) × (u' ≡ out_of p s m out) → (r ≡ q) × (o' ≡ u')
-  capture-write-determined out r q o' u' = two
+  pub capture_write_determined : (out : List ℕ) (r q : CaptureWritten) (o' u' : List ℕ)
+      → (r ≡ capture_written p s m out) × (o' ≡ out_of p s m out) → (q ≡ capture_written p s m out) × (u' ≡ out_of p s m out) → (r ≡ q) × (o' ≡ u')
+  capture_write_determined out r q o' u' = two
 
 pub capture_state_determined : (p : Profile) (f : List ℕ) (r q : Read) → r ≡ read_of p f → q ≡ read_of p f → r ≡ q
 capture_state_determined p f r q = one
@@ -104,11 +104,11 @@ pub capture_part_determined : (p : Profile) (f r q : List ℕ) → r ≡ part_of
 capture_part_determined p f r q = one
 
 pub srecord_read_determined : (m f : List ℕ) (r q : Verdict) (m' n' : List ℕ)
-    → (r ≡ srecordRead (length m) f) × (m' ≡ srecordMemory m f) → (q ≡ srecordRead (length m) f) × (n' ≡ srecordMemory m f) → (r ≡ q) × (m' ≡ n')
+    → (r ≡ srecord_read (length m) f) × (m' ≡ srecord_memory m f) → (q ≡ srecord_read (length m) f) × (n' ≡ srecord_memory m f) → (r ≡ q) × (m' ≡ n')
 srecord_read_determined m f r q m' n' = two
 
 pub srecord_write_determined : (m out : List ℕ) (r q : SrecordWritten) (o' u' : List ℕ)
-    → (r ≡ srecordWritten m out) × (o' ≡ srecordOut m out) → (q ≡ srecordWritten m out) × (u' ≡ srecordOut m out) → (r ≡ q) × (o' ≡ u')
+    → (r ≡ srecord_written m out) × (o' ≡ srecord_out m out) → (q ≡ srecord_written m out) × (u' ≡ srecord_out m out) → (r ≡ q) × (o' ≡ u')
 srecord_write_determined m out r q o' u' = two
 
 -- the C functions, whose states are bytes
@@ -133,48 +133,48 @@ pub c_rewrite_determined : (p : Profile) (w r q : ℕ) → r ≡ rewrite_of p (d
 c_rewrite_determined p w r q = one
 
 pub c_srec_read_determined : (m f : List ℕ) (r q : ℕ) (m' n' : List ℕ)
-    → (r ≡ srec_read_answer m f) × (m' ≡ srecordMemory m f) → (q ≡ srec_read_answer m f) × (n' ≡ srecordMemory m f) → (r ≡ q) × (m' ≡ n')
+    → (r ≡ srec_read_answer m f) × (m' ≡ srecord_memory m f) → (q ≡ srec_read_answer m f) × (n' ≡ srecord_memory m f) → (r ≡ q) × (m' ≡ n')
 c_srec_read_determined m f r q m' n' = two
 
 pub c_srec_write_determined : (m out : List ℕ) (r q : ℕ) (o' u' : List ℕ)
-    → (r ≡ srec_write_answer m out) × (o' ≡ srecordOut m out) → (q ≡ srec_write_answer m out) × (u' ≡ srecordOut m out) → (r ≡ q) × (o' ≡ u')
+    → (r ≡ srec_write_answer m out) × (o' ≡ srecord_out m out) → (q ≡ srec_write_answer m out) × (u' ≡ srecord_out m out) → (r ≡ q) × (o' ≡ u')
 c_srec_write_determined m out r q o' u' = two
 
 pub c_check_determined : (p : Profile) (f : List ℕ) (r q : ℕ) → r ≡ check_answer p f → q ≡ check_answer p f → r ≡ q
 c_check_determined p f r q = one
 
 module _ (p : Profile) (s m : List ℕ) where
-  pub c-run-determined : (ev : List ℕ) (budget r q : ℕ) (s' t' m' n' : List ℕ)
+  pub c_run_determined : (ev : List ℕ) (budget r q : ℕ) (s' t' m' n' : List ℕ)
       → (r ≡ run_answer p s m ev budget) × ((s' ≡ run_state p s m ev budget) × (m' ≡ run_lent p s m ev budget)) → (q ≡ run_answer p s m ev budget) × ((t' ≡ run_state p s m ev budget) × (n' ≡ run_lent p s m ev budget))
       → (r ≡ q) × ((s' ≡ t') × (m' ≡ n'))
-  c-run-determined ev budget r q s' t' m' n' = three
+  c_run_determined ev budget r q s' t' m' n' = three
 
-  pub c-reach-determined : (ev : List ℕ) (budget r q : ℕ) (s' t' m' n' : List ℕ)
+  pub c_reach_determined : (ev : List ℕ) (budget r q : ℕ) (s' t' m' n' : List ℕ)
       → (r ≡ reach_answer p s m ev budget) × ((s' ≡ run_state p s m ev budget) × (m' ≡ run_lent p s m ev budget)) → (q ≡ reach_answer p s m ev budget) × ((t' ≡ run_state p s m ev budget) × (n' ≡ run_lent p s m ev budget))
       → (r ≡ q) × ((s' ≡ t') × (m' ≡ n'))
-  c-reach-determined ev budget r q s' t' m' n' = three
+  c_reach_determined ev budget r q s' t' m' n' = three
 
-  pub c-inside-determined : (ev : List ℕ) (budget r q : ℕ) (s' t' m' n' : List ℕ)
+  pub c_inside_determined : (ev : List ℕ) (budget r q : ℕ) (s' t' m' n' : List ℕ)
       → (r ≡ inside_answer p s m ev budget) × ((s' ≡ inside_state p s m ev budget) × (m' ≡ inside_lent p s m ev budget)) → (q ≡ inside_answer p s m ev budget) × ((t' ≡ inside_state p s m ev budget) × (n' ≡ inside_lent p s m ev budget))
       → (r ≡ q) × ((s' ≡ t') × (m' ≡ n'))
-  c-inside-determined ev budget r q s' t' m' n' = three
+  c_inside_determined ev budget r q s' t' m' n' = three
 
-  pub c-until-determined : (ev stops : List ℕ) (budget r q : ℕ) (s' t' m' n' : List ℕ)
+  pub c_until_determined : (ev stops : List ℕ) (budget r q : ℕ) (s' t' m' n' : List ℕ)
       → (r ≡ until_answer p s m ev stops budget) × ((s' ≡ until_state p s m ev stops budget) × (m' ≡ until_lent p s m ev stops budget))
       → (q ≡ until_answer p s m ev stops budget) × ((t' ≡ until_state p s m ev stops budget) × (n' ≡ until_lent p s m ev stops budget)) → (r ≡ q) × ((s' ≡ t') × (m' ≡ n'))
-  c-until-determined ev stops budget r q s' t' m' n' = three
+  c_until_determined ev stops budget r q s' t' m' n' = three
 
-  pub c-step-determined : (e r q : ℕ) (s' t' m' n' : List ℕ)
+  pub c_step_determined : (e r q : ℕ) (s' t' m' n' : List ℕ)
       → (r ≡ step_answer p s m e) × ((s' ≡ step_state p s m e) × (m' ≡ step_lent p s m e)) → (q ≡ step_answer p s m e) × ((t' ≡ step_state p s m e) × (n' ≡ step_lent p s m e))
       → (r ≡ q) × ((s' ≡ t') × (m' ≡ n'))
-  c-step-determined e r q s' t' m' n' = three
+  c_step_determined e r q s' t' m' n' = three
 
-  pub c-tell-determined : (e r q : ℕ) → r ≡ tell_answer p s m e → q ≡ tell_answer p s m e → r ≡ q
-  c-tell-determined e r q = one
+  pub c_tell_determined : (e r q : ℕ) → r ≡ tell_answer p s m e → q ≡ tell_answer p s m e → r ≡ q
+  c_tell_determined e r q = one
 
-  pub c-access-determined : (e r q : ℕ) → r ≡ access_answer p s m e → q ≡ access_answer p s m e → r ≡ q
-  c-access-determined e r q = one
+  pub c_access_determined : (e r q : ℕ) → r ≡ access_answer p s m e → q ≡ access_answer p s m e → r ≡ q
+  c_access_determined e r q = one
 
-  pub c-write-determined : (out : List ℕ) (r q : ℕ) (o' u' : List ℕ)
+  pub c_write_determined : (out : List ℕ) (r q : ℕ) (o' u' : List ℕ)
       → (r ≡ write_answer p s m out) × (o' ≡ write_out p s m out) → (q ≡ write_answer p s m out) × (u' ≡ write_out p s m out) → (r ≡ q) × (o' ≡ u')
-  c-write-determined out r q o' u' = two
+  c_write_determined out r q o' u' = two

@@ -28,8 +28,8 @@ use Rattle.word.proofs.Truth.{never}
 use Rattle.insn.specs.Valid.{reg_of, paired_with}
 use Rattle.machine.specs.State.{gpr_of, vdr_of, with, with_gpr}
 use Rattle.machine.specs.After.{After, plain}
-use Rattle.machine.specs.Stack.{Part, pair, link, back, address_of, size_of, frame_ea, doublewords, parts_of, read_gpr, popped, state_after, memory_after, stores_of, goes_on, framed_of, stack_of, missed_at, missed_of, frame_missed}
-use Rattle.machine.proofs.Frames.{part_length, pop_memory}
+use Rattle.machine.specs.Stack.{Part, pair, link, address_of, size_of, frame_ea, doublewords, parts_of, read_gpr, popped, state_after, memory_after, stores_of, goes_on, framed_of, stack_of, missed_at, missed_of, frame_missed}
+use Rattle.machine.proofs.Frames.{part_length}
 use Rattle.machine.proofs.Registers.{gpr_elsewhere, places_differ, gpr_others}
 use Rattle.machine.specs.Interrupt.{entered_of, access_noted, program_noted, noted_of, promoted_of, halted_of, taken_for, interrupted_of, vector_for}
 use Rattle.machine.specs.LoadStore.{offset_ea, indexed_ea, loaded_state, stored_state, load_at, store_at, loaded_double_state, load_double_at, store_double_at, load_store_of}
@@ -56,42 +56,42 @@ module _ (p : Profile) (c : Cause) where
   abbrev FaultedAfter : After → After → Type 0
   FaultedAfter b a = faulted p b.st b.mem c a
 
-  part-faults : (s : State) (m : List ℕ) (store : Bool) (a : ℕ) (k : Access) (q : Missed) (before rest : After) → (missed_raises store q ≡ Raised.Raises c → FaultedAfter before rest)
+  part_faults : (s : State) (m : List ℕ) (store : Bool) (a : ℕ) (k : Access) (q : Missed) (before rest : After) → (missed_raises store q ≡ Raised.Raises c → FaultedAfter before rest)
       → missed_raises store (missed_at k a q) ≡ Raised.Raises c → FaultedAfter (when_served k before (plain s m)) (goes_on p s m store a k rest)
-  part-faults s m store a Access.Served q before rest h e = h e
-  part-faults s m store a Access.Unaligned q before rest h e = let d : Cause.Alignment a store ≡ c = cc in (ap (interrupted_of p s) d, refl)
-  part-faults s m store a Access.Outside q before rest h e = let d : Cause.DataStorage a store ≡ c = cc in (ap (interrupted_of p s) d, refl)
+  part_faults s m store a Access.Served q before rest h e = h e
+  part_faults s m store a Access.Unaligned q before rest h e = let d : Cause.Alignment a store ≡ c = cc in (ap (interrupted_of p s) d, refl)
+  part_faults s m store a Access.Outside q before rest h e = let d : Cause.DataStorage a store ≡ c = cc in (ap (interrupted_of p s) d, refl)
 
-  framed-faults : (op : StackOp) (ra sp ea : ℕ) (xs : List Part) (s : State) (m : List ℕ) → missed_raises (stores_of op) (missed_of (length m) xs) ≡ Raised.Raises c
+  framed_faults : (op : StackOp) (ra sp ea : ℕ) (xs : List Part) (s : State) (m : List ℕ) → missed_raises (stores_of op) (missed_of (length m) xs) ≡ Raised.Raises c
       → FaultedAfter (framed_before op ra xs s m) (framed_of p op ra sp ea xs s m)
   unfolding missed_of framed_before framed_of
-  framed-faults op ra sp ea [] s m e = quiet e
-  framed-faults op ra sp ea (x ∷ xs) s m e =
-      part-faults s m (stores_of op) (address_of x) (access_of (length m) (address_of x) (size_of x)) (missed_of (length m) xs) _ _
-      (λ h. framed-faults op ra sp ea xs (state_after op ra x s m) (memory_after op ra x s m) (rw (part_length op ra x s m) h)) e
+  framed_faults op ra sp ea [] s m e = quiet e
+  framed_faults op ra sp ea (x ∷ xs) s m e =
+      part_faults s m (stores_of op) (address_of x) (access_of (length m) (address_of x) (size_of x)) (missed_of (length m) xs) _ _
+      (λ h. framed_faults op ra sp ea xs (state_after op ra x s m) (memory_after op ra x s m) (rw (part_length op ra x s m) h)) e
 
-  stack-faults : (s : State) (m : List ℕ) (op : StackOp) (ra dd : ℕ) → stack_raises s m op ra dd ≡ Raised.Raises c → FaultedAfter (stack_before s m op ra dd) (stack_of p s m op ra dd)
+  stack_faults : (s : State) (m : List ℕ) (op : StackOp) (ra dd : ℕ) → stack_raises s m op ra dd ≡ Raised.Raises c → FaultedAfter (stack_before s m op ra dd) (stack_of p s m op ra dd)
   unfolding frame_missed stack_before stack_of
-  stack-faults s m op ra dd e = go (aligned_of (gpr_of s ra) 8) e
+  stack_faults s m op ra dd e = go (aligned_of (gpr_of s ra) 8) e
     where
       parts : List Part
       parts = parts_of op (gpr_of s ra) (frame_ea s ra dd) (doublewords op dd)
 
       go : (b : Bool) → missed_raises (stores_of op) (pick b (missed_of (length m) parts) (Missed.Unaligned (gpr_of s ra))) ≡ Raised.Raises c
           → FaultedAfter (pick b (framed_before op ra parts s m) (plain s m)) (pick b (framed_of p op ra (gpr_of s ra) (frame_ea s ra dd) parts s m) (plain (interrupted_of p s (Cause.Alignment (gpr_of s ra) (stores_of op))) m))
-      go true h = framed-faults op ra (gpr_of s ra) (frame_ea s ra dd) parts s m h
+      go true h = framed_faults op ra (gpr_of s ra) (frame_ea s ra dd) parts s m h
       go false h = let d : Cause.Alignment (gpr_of s ra) (stores_of op) ≡ c = cc in (ap (interrupted_of p s) d, refl)
 
 module _ (p : Profile) (s : State) (m : List ℕ) (c : Cause) where
-  load-faults : (k : Access) (v rt : ℕ) (u : Bool) (ra ea : ℕ) → access_raises k ea false ≡ Raised.Raises c → loaded_state p s (loaded k v) rt u ra ea ≡ interrupted_of p s c
-  load-faults Access.Served v rt u ra ea e = quiet e
-  load-faults Access.Unaligned v rt u ra ea e = let d : Cause.Alignment ea false ≡ c = cc in ap (interrupted_of p s) d
-  load-faults Access.Outside v rt u ra ea e = let d : Cause.DataStorage ea false ≡ c = cc in ap (interrupted_of p s) d
+  load_faults : (k : Access) (v rt : ℕ) (u : Bool) (ra ea : ℕ) → access_raises k ea false ≡ Raised.Raises c → loaded_state p s (loaded k v) rt u ra ea ≡ interrupted_of p s c
+  load_faults Access.Served v rt u ra ea e = quiet e
+  load_faults Access.Unaligned v rt u ra ea e = let d : Cause.Alignment ea false ≡ c = cc in ap (interrupted_of p s) d
+  load_faults Access.Outside v rt u ra ea e = let d : Cause.DataStorage ea false ≡ c = cc in ap (interrupted_of p s) d
 
-  load-double-faults : (k : Access) (v dt : ℕ) (u : Bool) (ra ea : ℕ) → access_raises k ea false ≡ Raised.Raises c → loaded_double_state p s (loaded_double k v) dt u ra ea ≡ interrupted_of p s c
-  load-double-faults Access.Served v dt u ra ea e = quiet e
-  load-double-faults Access.Unaligned v dt u ra ea e = let d : Cause.Alignment ea false ≡ c = cc in ap (interrupted_of p s) d
-  load-double-faults Access.Outside v dt u ra ea e = let d : Cause.DataStorage ea false ≡ c = cc in ap (interrupted_of p s) d
+  load_double_faults : (k : Access) (v dt : ℕ) (u : Bool) (ra ea : ℕ) → access_raises k ea false ≡ Raised.Raises c → loaded_double_state p s (loaded_double k v) dt u ra ea ≡ interrupted_of p s c
+  load_double_faults Access.Served v dt u ra ea e = quiet e
+  load_double_faults Access.Unaligned v dt u ra ea e = let d : Cause.Alignment ea false ≡ c = cc in ap (interrupted_of p s) d
+  load_double_faults Access.Outside v dt u ra ea e = let d : Cause.DataStorage ea false ≡ c = cc in ap (interrupted_of p s) d
 
   store_faults : (k : Access) (u : Bool) (ra ea a : ℕ) (bs : List ℕ) → access_raises k ea true ≡ Raised.Raises c
       → (stored_state p s k u ra ea ≡ interrupted_of p s c) × (written k m a bs ≡ m)
@@ -99,73 +99,73 @@ module _ (p : Profile) (s : State) (m : List ℕ) (c : Cause) where
   store_faults Access.Unaligned u ra ea a bs e = let d : Cause.Alignment ea true ≡ c = cc in (ap (interrupted_of p s) d, refl)
   store_faults Access.Outside u ra ea a bs e = let d : Cause.DataStorage ea true ≡ c = cc in (ap (interrupted_of p s) d, refl)
 
-  clear-faults : (k : Access) (ea a : ℕ) (bs : List ℕ) → access_raises k ea true ≡ Raised.Raises c
+  clear_faults : (k : Access) (ea a : ℕ) (bs : List ℕ) → access_raises k ea true ≡ Raised.Raises c
       → (cleared_state p s k ea ≡ interrupted_of p s c) × (written k m a bs ≡ m)
-  clear-faults Access.Served ea a bs e = quiet e
-  clear-faults Access.Unaligned ea a bs e = let d : Cause.Alignment ea true ≡ c = cc in (ap (interrupted_of p s) d, refl)
-  clear-faults Access.Outside ea a bs e = let d : Cause.DataStorage ea true ≡ c = cc in (ap (interrupted_of p s) d, refl)
+  clear_faults Access.Served ea a bs e = quiet e
+  clear_faults Access.Unaligned ea a bs e = let d : Cause.Alignment ea true ≡ c = cc in (ap (interrupted_of p s) d, refl)
+  clear_faults Access.Outside ea a bs e = let d : Cause.DataStorage ea true ≡ c = cc in (ap (interrupted_of p s) d, refl)
 
-  load-store-faults : (i : LoadStore) → load_store_raises s m i ≡ Raised.Raises c → faulted p s m c (load_store_of p s m i)
+  load_store_faults : (i : LoadStore) → load_store_raises s m i ≡ Raised.Raises c → faulted p s m c (load_store_of p s m i)
   unfolding load_store_of load_at store_at load_double_at store_double_at load_of stored_of load_double_of stored_double_of
-  load-store-faults (LoadStore.Load w u rt ra d) e =
-      (load-faults (access_of (length m) (offset_ea s ra d) (bytes w)) _ rt u ra (offset_ea s ra d) e, refl)
-  load-store-faults (LoadStore.LoadIndexed w rt ra rb) e =
-      (load-faults (access_of (length m) (indexed_ea s ra rb) (bytes w)) _ rt false ra (indexed_ea s ra rb) e, refl)
-  load-store-faults (LoadStore.Store w u rs ra d) e =
+  load_store_faults (LoadStore.Load w u rt ra d) e =
+      (load_faults (access_of (length m) (offset_ea s ra d) (bytes w)) _ rt u ra (offset_ea s ra d) e, refl)
+  load_store_faults (LoadStore.LoadIndexed w rt ra rb) e =
+      (load_faults (access_of (length m) (indexed_ea s ra rb) (bytes w)) _ rt false ra (indexed_ea s ra rb) e, refl)
+  load_store_faults (LoadStore.Store w u rs ra d) e =
       store_faults (access_of (length m) (offset_ea s ra d) (bytes w)) u ra (offset_ea s ra d) (offset_ea s ra d) (bytes_of w (gpr_of s rs)) e
-  load-store-faults (LoadStore.StoreIndexed w rs ra rb) e =
+  load_store_faults (LoadStore.StoreIndexed w rs ra rb) e =
       store_faults (access_of (length m) (indexed_ea s ra rb) (bytes w)) false ra (indexed_ea s ra rb) (indexed_ea s ra rb) (bytes_of w (gpr_of s rs)) e
-  load-store-faults (LoadStore.LoadDouble u dt ra d) e =
-      (load-double-faults (access_of (length m) (offset_ea s ra d) 8) _ dt u ra (offset_ea s ra d) e, refl)
-  load-store-faults (LoadStore.StoreDouble u ds ra d) e =
+  load_store_faults (LoadStore.LoadDouble u dt ra d) e =
+      (load_double_faults (access_of (length m) (offset_ea s ra d) 8) _ dt u ra (offset_ea s ra d) e, refl)
+  load_store_faults (LoadStore.StoreDouble u ds ra d) e =
       store_faults (access_of (length m) (offset_ea s ra d) 8) u ra (offset_ea s ra d) (offset_ea s ra d) (double_bytes (vdr_of s ds)) e
 
-  cache-faults : (op : CacheOp) (ra rb : ℕ) → cache_raises s m op ra rb ≡ Raised.Raises c → faulted p s m c (cache_of p s m op ra rb)
+  cache_faults : (op : CacheOp) (ra rb : ℕ) → cache_raises s m op ra rb ≡ Raised.Raises c → faulted p s m c (cache_of p s m op ra rb)
   unfolding cache_of clear_at cleared_of
-  cache-faults CacheOp.Dcbf ra rb e = quiet e
-  cache-faults CacheOp.Dcbi ra rb e = quiet e
-  cache-faults CacheOp.Dcbt ra rb e = quiet e
-  cache-faults CacheOp.Dcbz ra rb e = clear-faults (access_of (length m) (block_at (indexed_ea s ra rb)) 32) (indexed_ea s ra rb) (block_at (indexed_ea s ra rb)) _ e
+  cache_faults CacheOp.Dcbf ra rb e = quiet e
+  cache_faults CacheOp.Dcbi ra rb e = quiet e
+  cache_faults CacheOp.Dcbt ra rb e = quiet e
+  cache_faults CacheOp.Dcbz ra rb e = clear_faults (access_of (length m) (block_at (indexed_ea s ra rb)) 32) (indexed_ea s ra rb) (block_at (indexed_ea s ra rb)) _ e
 
-  trap-cases : (w : ℕ) (a b : Bool) (t u : State) → pick a Raised.Nothing (pick b Raised.Nothing (Raised.Raises (Cause.Program w true))) ≡ Raised.Raises c
+  trap_cases : (w : ℕ) (a b : Bool) (t u : State) → pick a Raised.Nothing (pick b Raised.Nothing (Raised.Raises (Cause.Program w true))) ≡ Raised.Raises c
       → pick a t (pick b u (interrupted_of p s (Cause.Program w true))) ≡ interrupted_of p s c
-  trap-cases w true b t u e = quiet e
-  trap-cases w false true t u e = quiet e
-  trap-cases w false false t u e = let d : Cause.Program w true ≡ c = cc in ap (interrupted_of p s) d
+  trap_cases w true b t u e = quiet e
+  trap_cases w false true t u e = quiet e
+  trap_cases w false false t u e = let d : Cause.Program w true ≡ c = cc in ap (interrupted_of p s) d
 
-  execute-faults : (w : ℕ) (i : Instr) → execute_raises p s m w i ≡ Raised.Raises c → FaultedAfter p c (execute_before s m i) (execute_of p s m w i)
+  execute_faults : (w : ℕ) (i : Instr) → execute_raises p s m w i ≡ Raised.Raises c → FaultedAfter p c (execute_before s m i) (execute_of p s m w i)
   unfolding execute_of trap_of
-  execute-faults w (Instr.Arithmetic i) e = quiet e
-  execute-faults w (Instr.Logical i) e = quiet e
-  execute-faults w (Instr.Compare i) e = quiet e
-  execute-faults w (Instr.Rotate i) e = quiet e
-  execute-faults w (Instr.LoadStore i) e = load-store-faults i e
-  execute-faults w (Instr.Stack dd op rt ra) e = stack-faults p c s m op ra dd e
-  execute-faults w (Instr.Branch i) e = quiet e
-  execute-faults w (Instr.Trap to ra rb tg) e = (trap-cases w (eqb to 0 || is42x p && tg) (bit_at s.dbcr 7) _ _ e, refl)
-  execute-faults w (Instr.System i) e = quiet e
-  execute-faults w (Instr.Cache op hint ra rb) e = cache-faults op ra rb e
+  execute_faults w (Instr.Arithmetic i) e = quiet e
+  execute_faults w (Instr.Logical i) e = quiet e
+  execute_faults w (Instr.Compare i) e = quiet e
+  execute_faults w (Instr.Rotate i) e = quiet e
+  execute_faults w (Instr.LoadStore i) e = load_store_faults i e
+  execute_faults w (Instr.Stack dd op rt ra) e = stack_faults p c s m op ra dd e
+  execute_faults w (Instr.Branch i) e = quiet e
+  execute_faults w (Instr.Trap to ra rb tg) e = (trap_cases w (eqb to 0 || is42x p && tg) (bit_at s.dbcr 7) _ _ e, refl)
+  execute_faults w (Instr.System i) e = quiet e
+  execute_faults w (Instr.Cache op hint ra rb) e = cache_faults op ra rb e
 
-  decoded-faults : (w : ℕ) (d : Decoded) → decoded_raises p s m w d ≡ Raised.Raises c → FaultedAfter p c (decoded_before s m d) (decoded_of p s m w d)
-  decoded-faults w (Decoded.Insn i) e = execute-faults w i e
-  decoded-faults w Decoded.Illegal e = let d : Cause.Program w false ≡ c = cc in (ap (interrupted_of p s) d, refl)
+  decoded_faults : (w : ℕ) (d : Decoded) → decoded_raises p s m w d ≡ Raised.Raises c → FaultedAfter p c (decoded_before s m d) (decoded_of p s m w d)
+  decoded_faults w (Decoded.Insn i) e = execute_faults w i e
+  decoded_faults w Decoded.Illegal e = let d : Cause.Program w false ≡ c = cc in (ap (interrupted_of p s) d, refl)
 
-  fetched-faults : (l : Loaded) → fetched_raises p s m l ≡ Raised.Raises c → FaultedAfter p c (fetched_before p s m l) (fetched_of p s m l)
-  fetched-faults (Loaded.Value w) e = decoded-faults w (decode_on p w) e
-  fetched-faults Loaded.Unaligned e = let d : Cause.InstructionStorage ≡ c = cc in (ap (interrupted_of p s) d, refl)
-  fetched-faults Loaded.Outside e = let d : Cause.InstructionStorage ≡ c = cc in (ap (interrupted_of p s) d, refl)
+  fetched_faults : (l : Loaded) → fetched_raises p s m l ≡ Raised.Raises c → FaultedAfter p c (fetched_before p s m l) (fetched_of p s m l)
+  fetched_faults (Loaded.Value w) e = decoded_faults w (decode_on p w) e
+  fetched_faults Loaded.Unaligned e = let d : Cause.InstructionStorage ≡ c = cc in (ap (interrupted_of p s) d, refl)
+  fetched_faults Loaded.Outside e = let d : Cause.InstructionStorage ≡ c = cc in (ap (interrupted_of p s) d, refl)
 
   -- line 6: what a fault leaves
-  pub running-faults : raised_of p s m ≡ Raised.Raises c → (let b = running_before p s m in faulted p b.st b.mem c (running_of p s m))
+  pub running_faults : raised_of p s m ≡ Raised.Raises c → (let b = running_before p s m in faulted p b.st b.mem c (running_of p s m))
   unfolding raised_of running_of running_before
-  running-faults e = fetched-faults (fetch_of m s.iar) e
+  running_faults e = fetched_faults (fetch_of m s.iar) e
 
 -- a whole step that gets to line 6 and faults there: of the state that line 2 left, and what lsku or stsku did before the fault, only what the interrupt sets
 -- is changed
 pub step_faults : (p : Profile) (s : State) (m : List ℕ) (e : ℕ) (c : Cause) → s.halt ≡ 0 → acts_of s e ≡ false → highest_of (ticked_of s e) e ≡ Pending.Nothing
     → bit_at (ticked_of s e).msr 13 ≡ false → raised_of p (ticked_of s e) m ≡ Raised.Raises c → (let b = running_before p (ticked_of s e) m in faulted p b.st b.mem c (step_of p s m e))
 unfolding step_of counted_of awake_of
-step_faults p s m e c h a q w r = rw (eq-eqb s.halt 0 h, a, q, w) (running-faults p (ticked_of s e) m c r)
+step_faults p s m e c h a q w r = rw (eq-eqb s.halt 0 h, a, q, w) (running_faults p (ticked_of s e) m c r)
 
 -- every other instruction has done nothing before its fault
 before_alone : (s : State) (m : List ℕ) (i : Instr) → is_stack i ≡ false → execute_before s m i ≡ plain s m
@@ -212,18 +212,18 @@ module _ (ra : ℕ) (m : List ℕ) (c : Cause) where
   abbrev Leaves : List Part → Type 0
   Leaves xs = (s : State) → missed_raises false (missed_of (length m) xs) ≡ Raised.Raises c → OnlyPairs ra s (framed_before StackOp.Lsku ra xs s m).st
 
-  link-before : (a : ℕ) → Leaves (link a ∷ [])
+  link_before : (a : ℕ) → Leaves (link a ∷ [])
   unfolding missed_of framed_before
-  link-before a s e = go (access_of (length m) a 4) e
+  link_before a s e = go (access_of (length m) a 4) e
     where
       go : (k : Access) → missed_raises false (missed_at k a Missed.Nothing) ≡ Raised.Raises c → OnlyPairs ra s (when_served k (framed_before StackOp.Lsku ra [] (popped ra (link a) m s) m) (plain s m)).st
       go Access.Served h = quiet h
       go Access.Unaligned h = only_same ra s
       go Access.Outside h = only_same ra s
 
-  pair-before : (n a : ℕ) (xs : List Part) → High n → Leaves xs → Leaves (pair n a ∷ xs)
+  pair_before : (n a : ℕ) (xs : List Part) → High n → Leaves xs → Leaves (pair n a ∷ xs)
   unfolding missed_of framed_before
-  pair-before n a xs d rest s e = go (access_of (length m) a 8) e
+  pair_before n a xs d rest s e = go (access_of (length m) a 8) e
     where
       go : (k : Access) → missed_raises false (missed_at k a (missed_of (length m) xs)) ≡ Raised.Raises c → OnlyPairs ra s (when_served k (framed_before StackOp.Lsku ra xs (popped ra (pair n a) m s) m) (plain s m)).st
       go Access.Served h =
@@ -231,9 +231,9 @@ module _ (ra : ℕ) (m : List ℕ) (c : Cause) where
       go Access.Unaligned h = only_same ra s
       go Access.Outside h = only_same ra s
 
-  pop-before : (sp ea n : ℕ) → Leaves (parts_of StackOp.Lsku sp ea n)
+  pop_before : (sp ea n : ℕ) → Leaves (parts_of StackOp.Lsku sp ea n)
   unfolding reg_of
-  pop-before sp ea n = go (ltb 0 n) (ltb 1 n)
+  pop_before sp ea n = go (ltb 0 n) (ltb 1 n)
     where
       last : List Part
       last = link ((ea + 4) % 2 ^ 32) ∷ []
@@ -242,9 +242,9 @@ module _ (ra : ℕ) (m : List ℕ) (c : Cause) where
       second = pair 28 ((ea + (2 ^ 32 - 16)) % 2 ^ 32) ∷ last
 
       go : (b d : Bool) → Leaves (pick b (pair 30 ((ea + (2 ^ 32 - 8)) % 2 ^ 32) ∷ pick d second last) last)
-      go true true = pair-before 30 _ second ((refl, lit≤ tt), (refl, lit≤ tt)) (pair-before 28 _ last ((refl, lit≤ tt), (refl, lit≤ tt)) (link-before _))
-      go true false = pair-before 30 _ last ((refl, lit≤ tt), (refl, lit≤ tt)) (link-before _)
-      go false d = link-before _
+      go true true = pair_before 30 _ second ((refl, lit≤ tt), (refl, lit≤ tt)) (pair_before 28 _ last ((refl, lit≤ tt), (refl, lit≤ tt)) (link_before _))
+      go true false = pair_before 30 _ last ((refl, lit≤ tt), (refl, lit≤ tt)) (link_before _)
+      go false d = link_before _
 
 -- what a fault of lsku leaves: the memory, and of the registers all but the pairs that it has loaded
 before_memory : (ra : ℕ) (xs : List Part) (s : State) (m : List ℕ) → (framed_before StackOp.Lsku ra xs s m).mem ≡ m
@@ -267,7 +267,7 @@ lsku_before s m ra dd c e = go (aligned_of (gpr_of s ra) 8) e
 
     go : (b : Bool) → missed_raises false (pick b (missed_of (length m) parts) (Missed.Unaligned (gpr_of s ra))) ≡ Raised.Raises c
         → (let a = pick b (framed_before StackOp.Lsku ra parts s m) (plain s m) in (a.mem ≡ m) × OnlyPairs ra s a.st)
-    go true h = (before_memory ra parts s m, pop-before ra m c (gpr_of s ra) (frame_ea s ra dd) (doublewords StackOp.Lsku dd) s h)
+    go true h = (before_memory ra parts s m, pop_before ra m c (gpr_of s ra) (frame_ea s ra dd) (doublewords StackOp.Lsku dd) s h)
     go false h = (refl, only_same ra s)
 
 -- what a fault of stsku leaves: every register; of the memory what writes_only says

@@ -10,13 +10,13 @@ use Rattle.machine.specs.Step.{step_of}
 use Rattle.machine.specs.declared.state.State.{State}
 use Rattle.run.specs.Run.{run_of, past_of, inside_of}
 use Rattle.run.specs.Outcome.{accepted, run_refusal, run_outcome, run_memory, run_past, inside_outcome, inside_memory}
-use Rattle.promises.proofs.Cut.{metOf, cut_of, cut-is-run, cut-ends-first}
+use Rattle.promises.proofs.Cut.{met_of, cut_of, cut_is_run, cut_ends_first}
 
 abbrev reached : After → Bool
 reached a = a.past
 
-past_met : (p : Profile) (n i : ℕ) (ev : List ℕ) (s : State) (m : List ℕ) → past_of p n i ev s m ≡ metOf p reached n i ev s m
-unfolding past_of metOf
+past_met : (p : Profile) (n i : ℕ) (ev : List ℕ) (s : State) (m : List ℕ) → past_of p n i ev s m ≡ met_of p reached n i ev s m
+unfolding past_of met_of
 past_met p zero i ev s m = refl
 past_met p (suc n) i ev s m = rw (past_met p n (suc i) ev (step_of p s m (get_or ev i 0)).st (step_of p s m (get_or ev i 0)).mem)
 
@@ -27,15 +27,15 @@ inside_cut p (suc n) i ev s m = rw (inside_cut p n (suc i) ev (step_of p s m (ge
 
 module _ (p : Profile) (s : State) (m ev : List ℕ) (budget : ℕ) where
   -- not reached: outcome and memory are the plain run's with the whole budget
-  pub inside-is-run : run_past p s m ev budget ≡ false → (inside_outcome p s m ev budget ≡ run_outcome p s m ev budget) × (inside_memory p s m ev budget ≡ run_memory p s m ev budget)
+  pub inside_is_run : run_past p s m ev budget ≡ false → (inside_outcome p s m ev budget ≡ run_outcome p s m ev budget) × (inside_memory p s m ev budget ≡ run_memory p s m ev budget)
   unfolding run_past inside_outcome inside_memory run_outcome run_memory
-  inside-is-run h = rw (inside_cut p budget 0 ev s m) (cut-is-run p reached (run_refusal p s m ev budget) s m ev budget (rw (past_met p budget 0 ev s m) at h))
+  inside_is_run h = rw (inside_cut p budget 0 ev s m) (cut_is_run p reached (run_refusal p s m ev budget) s m ev budget (rw (past_met p budget 0 ev s m) at h))
 
   -- reached: they are those of the run of as many steps as it took, the last of which reached and none before
-  pub inside-ends-first : run_past p s m ev budget ≡ true
+  pub inside_ends_first : run_past p s m ev budget ≡ true
       → (let n = (inside_outcome p s m ev budget).steps in
       (inside_outcome p s m ev budget ≡ accepted (run_of p n 0 ev s m)) × ((inside_memory p s m ev budget ≡ (run_of p n 0 ev s m).mem) × ((past_of p (n - 1) 0 ev s m ≡ false) × (past_of p n 0 ev s m ≡ true))))
   unfolding run_past inside_outcome inside_memory
-  inside-ends-first h =
-      let f = cut-ends-first p reached (run_refusal p s m ev budget) s m ev budget (rw (past_met p budget 0 ev s m) at h) in
+  inside_ends_first h =
+      let f = cut_ends_first p reached (run_refusal p s m ev budget) s m ev budget (rw (past_met p budget 0 ev s m) at h) in
       rw (inside_cut p budget 0 ev s m) (f.0, (f.1.0, (rw past_met f.1.1.0, rw past_met f.1.1.1)))

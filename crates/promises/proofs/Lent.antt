@@ -18,9 +18,9 @@ use Rattle.run.specs.Run.{Ran, run_of}
 use Rattle.run.specs.Outcome.{events_good, events_refusal, run_refusal, step_refusal, accepted, step_outcome, step_memory}
 use Rattle.run.specs.Lent.{after, lent_of}
 use Rattle.run.specs.declared.outcome.Outcome.{Outcome}
-use Rattle.run.proofs.Laws.{run-halted, run_one}
+use Rattle.run.proofs.Laws.{run_halted, run_one}
 use Rattle.word.proofs.Truth.{and_left, and_right}
-use Rattle.promises.proofs.Accepted.{start-again, first_none, second_none}
+use Rattle.promises.proofs.Accepted.{start_again, first_none, second_none}
 
 -- each event of a good list is below 64, the zeros past its end too
 below : (ev : List ℕ) (i : ℕ) → events_good ev ≡ true → ltb (get_or ev i 0) 64 ≡ true
@@ -35,36 +35,36 @@ module _ (p : Profile) (s : State) (m : List ℕ) (e : ℕ) (h : start_refusal p
   unfolding step_outcome step_refusal events_refusal events_good
   one_state = rw (h, l)
 
-  one-memory : step_memory p s m e ≡ (run_of p 1 0 (e ∷ []) s m).mem
+  one_memory : step_memory p s m e ≡ (run_of p 1 0 (e ∷ []) s m).mem
   unfolding step_memory step_refusal events_refusal events_good
-  one-memory = rw (h, l)
+  one_memory = rw (h, l)
 
 module _ (p : Profile) (n i : ℕ) (ev : List ℕ) (s : State) (m : List ℕ) where
   abbrev one : Ran
   one = run_of p 1 0 (get_or ev i 0 ∷ []) s m
 
-  run-next : eqb s.halt 0 ≡ true → run_of p (suc n) i ev s m ≡ run_of p n (suc i) ev (step_of p s m (get_or ev i 0)).st (step_of p s m (get_or ev i 0)).mem
+  run_next : eqb s.halt 0 ≡ true → run_of p (suc n) i ev s m ≡ run_of p n (suc i) ev (step_of p s m (get_or ev i 0)).st (step_of p s m (get_or ev i 0)).mem
   unfolding run_of
-  run-next b = rw b
+  run_next b = rw b
 
   -- a run is its first step and the run from there
   turn : (b : Bool) → eqb s.halt 0 ≡ b → (r : Ran) → run_of p n (suc i) ev one.st one.mem ≡ after (suc i) r → run_of p (suc n) i ev s m ≡ after i (after one.steps r)
   turn true b r h =
       let q = run_one p (get_or ev i 0) s m (eqb-true s.halt 0 b) in
       let e : suc i + r.steps ≡ i + (1 + r.steps) = omega arith in
-      rw (run-next b, q) ((rw q at h) ∙ rw e)
+      rw (run_next b, q) ((rw q at h) ∙ rw e)
   turn false b r h =
       let halted = eqb-false s.halt 0 b in
-      let q = run-halted p (get_or ev i 0 ∷ []) s m 1 0 halted in
-      let k : record { st = s; mem = m; steps = suc i } ≡ after (suc i) r = sym (run-halted p ev s m n (suc i) halted) ∙ (rw q at h) in
+      let q = run_halted p (get_or ev i 0 ∷ []) s m 1 0 halted in
+      let k : record { st = s; mem = m; steps = suc i } ≡ after (suc i) r = sym (run_halted p ev s m n (suc i) halted) ∙ (rw q at h) in
       let c : suc i ≡ suc i + r.steps = ap (λ (x : Ran). x.steps) k in
       let e : i ≡ i + (0 + r.steps) = omega arith in
-      rw (run-halted p ev s m (suc n) i halted, q) (λ j. record { st = (k j).st; mem = (k j).mem; steps = e j })
+      rw (run_halted p ev s m (suc n) i halted, q) (λ j. record { st = (k j).st; mem = (k j).mem; steps = e j })
 
   -- a lent turn, where the step by value is known
-  lent-next : (o : Outcome) (x : List ℕ) → step_outcome p s m (get_or ev i 0) ≡ o → step_memory p s m (get_or ev i 0) ≡ x → lent_of p (suc n) i ev s m ≡ after o.steps (lent_of p n (suc i) ev o.state x)
+  lent_next : (o : Outcome) (x : List ℕ) → step_outcome p s m (get_or ev i 0) ≡ o → step_memory p s m (get_or ev i 0) ≡ x → lent_of p (suc n) i ev s m ≡ after o.steps (lent_of p n (suc i) ev o.state x)
   unfolding lent_of
-  lent-next o x t y = rw (t, y)
+  lent_next o x t y = rw (t, y)
 
 lent_none : (p : Profile) (i : ℕ) (ev : List ℕ) (s : State) (m : List ℕ) → run_of p 0 i ev s m ≡ after i (lent_of p 0 i ev s m)
 unfolding run_of lent_of
@@ -76,9 +76,9 @@ lent_goes p zero i ev good s m h = lent_none p i ev s m
 lent_goes p (suc n) i ev good s m h =
     let q = one p n i ev s m in
     let l = below ev i good in
-    let rest = lent_goes p n (suc i) ev good q.st q.mem (start-again p 1 0 (get_or ev i 0 ∷ []) s m h) in
+    let rest = lent_goes p n (suc i) ev good q.st q.mem (start_again p 1 0 (get_or ev i 0 ∷ []) s m h) in
     turn p n i ev s m (eqb s.halt 0) refl (lent_of p n (suc i) ev q.st q.mem) rest
-    ∙ ap (after i) (sym (lent-next p n i ev s m (accepted q) q.mem (one_state p s m (get_or ev i 0) h l) (one-memory p s m (get_or ev i 0) h l)))
+    ∙ ap (after i) (sym (lent_next p n i ev s m (accepted q) q.mem (one_state p s m (get_or ev i 0) h l) (one_memory p s m (get_or ev i 0) h l)))
 
 events_good_lem : (b : Bool) → unless b Refusal.Events ≡ Refusal.None → b ≡ true
 events_good_lem true h = refl

@@ -138,60 +138,60 @@ module _ (p : Profile) (s : State) (m : List ℕ) (k : ℕ) where
       let e : length (bytes_of w (gpr_of s rs)) ≡ bytes w = bytes_length w (gpr_of s rs) in
       written_other m ea k (bytes_of w (gpr_of s rs)) (access_of (length m) ea (bytes w)) (rw e h)
 
-  store-double-other : (ds ea : ℕ) (u : Bool) (ra : ℕ) → Misses k (touched_at m ea 8) → get_or (store_double_at p s m ds ea u ra).mem k 0 ≡ get_or m k 0
+  store_double_other : (ds ea : ℕ) (u : Bool) (ra : ℕ) → Misses k (touched_at m ea 8) → get_or (store_double_at p s m ds ea u ra).mem k 0 ≡ get_or m k 0
   unfolding store_double_at stored_double_of
-  store-double-other ds ea u ra h =
+  store_double_other ds ea u ra h =
       written_other m ea k (double_bytes (vdr_of s ds)) (access_of (length m) ea 8) (rw (double_length (vdr_of s ds)) h)
 
-  load-store-other : (i : LoadStore) → Misses k (written_by m (load_store_use s i)) → get_or (load_store_of p s m i).mem k 0 ≡ get_or m k 0
+  load_store_other : (i : LoadStore) → Misses k (written_by m (load_store_use s i)) → get_or (load_store_of p s m i).mem k 0 ≡ get_or m k 0
   unfolding load_store_of load_at load_double_at
-  load-store-other (LoadStore.Load w u rt ra d) h = refl
-  load-store-other (LoadStore.LoadIndexed w rt ra rb) h = refl
-  load-store-other (LoadStore.Store w u rs ra d) h = store_other w rs (offset_ea s ra d) u ra h
-  load-store-other (LoadStore.StoreIndexed w rs ra rb) h = store_other w rs (indexed_ea s ra rb) false ra h
-  load-store-other (LoadStore.LoadDouble u dt ra d) h = refl
-  load-store-other (LoadStore.StoreDouble u ds ra d) h = store-double-other ds (offset_ea s ra d) u ra h
+  load_store_other (LoadStore.Load w u rt ra d) h = refl
+  load_store_other (LoadStore.LoadIndexed w rt ra rb) h = refl
+  load_store_other (LoadStore.Store w u rs ra d) h = store_other w rs (offset_ea s ra d) u ra h
+  load_store_other (LoadStore.StoreIndexed w rs ra rb) h = store_other w rs (indexed_ea s ra rb) false ra h
+  load_store_other (LoadStore.LoadDouble u dt ra d) h = refl
+  load_store_other (LoadStore.StoreDouble u ds ra d) h = store_double_other ds (offset_ea s ra d) u ra h
 
   -- a frame whose (RA) is not aligned leaves the memory
-  picked-other : (b : Bool) (t : State) (u : After) → (b ≡ true → get_or u.mem k 0 ≡ get_or m k 0) → get_or (pick b u (plain t m)).mem k 0 ≡ get_or m k 0
-  picked-other true t u f = f refl
-  picked-other false t u f = refl
+  picked_other : (b : Bool) (t : State) (u : After) → (b ≡ true → get_or u.mem k 0 ≡ get_or m k 0) → get_or (pick b u (plain t m)).mem k 0 ≡ get_or m k 0
+  picked_other true t u f = f refl
+  picked_other false t u f = refl
 
-  stack-other : (op : StackOp) (ra dd : ℕ) → Misses k (written_by m (stack_use s op ra dd)) → get_or (stack_of p s m op ra dd).mem k 0 ≡ get_or m k 0
+  stack_other : (op : StackOp) (ra dd : ℕ) → Misses k (written_by m (stack_use s op ra dd)) → get_or (stack_of p s m op ra dd).mem k 0 ≡ get_or m k 0
   unfolding stack_of
-  stack-other StackOp.Lsku ra dd h =
-      picked-other (aligned_of (gpr_of s ra) 8) _ _ (λ e. ap (λ (b : List ℕ). get_or b k 0) (pop_memory p ra (gpr_of s ra) (frame_ea s ra dd) _ s m))
-  stack-other StackOp.Stsku ra dd h =
-      picked-other (aligned_of (gpr_of s ra) 8) _ _ (λ e. push_other p ra (gpr_of s ra) (frame_ea s ra dd) s k _ m (rw e at h))
+  stack_other StackOp.Lsku ra dd h =
+      picked_other (aligned_of (gpr_of s ra) 8) _ _ (λ e. ap (λ (b : List ℕ). get_or b k 0) (pop_memory p ra (gpr_of s ra) (frame_ea s ra dd) _ s m))
+  stack_other StackOp.Stsku ra dd h =
+      picked_other (aligned_of (gpr_of s ra) 8) _ _ (λ e. push_other p ra (gpr_of s ra) (frame_ea s ra dd) s k _ m (rw e at h))
 
-  cache-other : (op : CacheOp) (ra rb : ℕ) → Misses k (written_by m (cache_use s op ra rb)) → get_or (cache_of p s m op ra rb).mem k 0 ≡ get_or m k 0
+  cache_other : (op : CacheOp) (ra rb : ℕ) → Misses k (written_by m (cache_use s op ra rb)) → get_or (cache_of p s m op ra rb).mem k 0 ≡ get_or m k 0
   unfolding cache_of clear_at cleared_of
-  cache-other CacheOp.Dcbf ra rb h = refl
-  cache-other CacheOp.Dcbi ra rb h = refl
-  cache-other CacheOp.Dcbt ra rb h = refl
-  cache-other CacheOp.Dcbz ra rb h = written_other m (block_at (indexed_ea s ra rb)) k (replicate 32 0) (access_of (length m) (block_at (indexed_ea s ra rb)) 32) h
+  cache_other CacheOp.Dcbf ra rb h = refl
+  cache_other CacheOp.Dcbi ra rb h = refl
+  cache_other CacheOp.Dcbt ra rb h = refl
+  cache_other CacheOp.Dcbz ra rb h = written_other m (block_at (indexed_ea s ra rb)) k (replicate 32 0) (access_of (length m) (block_at (indexed_ea s ra rb)) 32) h
 
-  execute-other : (w : ℕ) (i : Instr) → Misses k (written_by m (execute_use s i)) → get_or (execute_of p s m w i).mem k 0 ≡ get_or m k 0
+  execute_other : (w : ℕ) (i : Instr) → Misses k (written_by m (execute_use s i)) → get_or (execute_of p s m w i).mem k 0 ≡ get_or m k 0
   unfolding execute_of
-  execute-other w (Instr.Arithmetic i) h = refl
-  execute-other w (Instr.Logical i) h = refl
-  execute-other w (Instr.Compare i) h = refl
-  execute-other w (Instr.Rotate i) h = refl
-  execute-other w (Instr.LoadStore i) h = load-store-other i h
-  execute-other w (Instr.Stack dd op rt ra) h = stack-other op ra dd h
-  execute-other w (Instr.Branch i) h = refl
-  execute-other w (Instr.Trap to ra rb tg) h = refl
-  execute-other w (Instr.System i) h = refl
-  execute-other w (Instr.Cache op hint ra rb) h = cache-other op ra rb h
+  execute_other w (Instr.Arithmetic i) h = refl
+  execute_other w (Instr.Logical i) h = refl
+  execute_other w (Instr.Compare i) h = refl
+  execute_other w (Instr.Rotate i) h = refl
+  execute_other w (Instr.LoadStore i) h = load_store_other i h
+  execute_other w (Instr.Stack dd op rt ra) h = stack_other op ra dd h
+  execute_other w (Instr.Branch i) h = refl
+  execute_other w (Instr.Trap to ra rb tg) h = refl
+  execute_other w (Instr.System i) h = refl
+  execute_other w (Instr.Cache op hint ra rb) h = cache_other op ra rb h
 
-  decoded-other : (w : ℕ) (d : Decoded) → Misses k (written_by m (decoded_use s d)) → get_or (decoded_of p s m w d).mem k 0 ≡ get_or m k 0
-  decoded-other w (Decoded.Insn i) h = execute-other w i h
-  decoded-other w Decoded.Illegal h = refl
+  decoded_other : (w : ℕ) (d : Decoded) → Misses k (written_by m (decoded_use s d)) → get_or (decoded_of p s m w d).mem k 0 ≡ get_or m k 0
+  decoded_other w (Decoded.Insn i) h = execute_other w i h
+  decoded_other w Decoded.Illegal h = refl
 
-  fetched-other : (l : Loaded) → Misses k (written_by m (fetched_use p s l)) → get_or (fetched_of p s m l).mem k 0 ≡ get_or m k 0
-  fetched-other (Loaded.Value w) h = decoded-other w (decode_on p w) h
-  fetched-other Loaded.Unaligned h = refl
-  fetched-other Loaded.Outside h = refl
+  fetched_other : (l : Loaded) → Misses k (written_by m (fetched_use p s l)) → get_or (fetched_of p s m l).mem k 0 ≡ get_or m k 0
+  fetched_other (Loaded.Value w) h = decoded_other w (decode_on p w) h
+  fetched_other Loaded.Unaligned h = refl
+  fetched_other Loaded.Outside h = refl
 
 -- ---- whether a step gets to line 6
 
@@ -223,31 +223,31 @@ rests_cases p false a (Pending.Take v) w s t e m n = (refl, (refl, refl))
 rests_cases p false a Pending.Nothing w s t e m n = (refl, (refl, refl))
 
 module _ (p : Profile) (s : State) (e : ℕ) where
-  interruptible-lines : (a h : Bool) (q : Pending) (m : List ℕ)
+  interruptible_lines : (a h : Bool) (q : Pending) (m : List ℕ)
       → pick h (pick a (plain (acted_of (ticked_of s e)) m) (interruptible_of p (ticked_of s e) m q)) (plain s m) ≡ lines p h a q (bit_at (ticked_of s e).msr 13) s (ticked_of s e) m
   unfolding awake_of
-  interruptible-lines a h (Pending.Take v) m = refl
-  interruptible-lines a h Pending.Nothing m = refl
+  interruptible_lines a h (Pending.Take v) m = refl
+  interruptible_lines a h Pending.Nothing m = refl
 
   pub step_lines : (m : List ℕ) → step_of p s m e ≡ lines p (eqb s.halt 0) (acts_of s e) (highest_of (ticked_of s e) e) (bit_at (ticked_of s e).msr 13) s (ticked_of s e) m
   unfolding step_of counted_of
-  step_lines m = interruptible-lines (acts_of s e) (eqb s.halt 0) (highest_of (ticked_of s e) e) m
+  step_lines m = interruptible_lines (acts_of s e) (eqb s.halt 0) (highest_of (ticked_of s e) e) m
 
-  step-runs : executes s e ≡ true → (m : List ℕ) → step_of p s m e ≡ running_of p (ticked_of s e) m
+  step_runs : executes s e ≡ true → (m : List ℕ) → step_of p s m e ≡ running_of p (ticked_of s e) m
   unfolding executes
-  step-runs h m = step_lines m ∙ runs_cases p (eqb s.halt 0) (acts_of s e) (highest_of (ticked_of s e) e) (bit_at (ticked_of s e).msr 13) s (ticked_of s e) m h
+  step_runs h m = step_lines m ∙ runs_cases p (eqb s.halt 0) (acts_of s e) (highest_of (ticked_of s e) e) (bit_at (ticked_of s e).msr 13) s (ticked_of s e) m h
 
-  step-rests : executes s e ≡ false → Rests (λ m. step_of p s m e)
+  step_rests : executes s e ≡ false → Rests (λ m. step_of p s m e)
   unfolding executes
-  step-rests h m n =
+  step_rests h m n =
       let r = rests_cases p (eqb s.halt 0) (acts_of s e) (highest_of (ticked_of s e) e) (bit_at (ticked_of s e).msr 13) s (ticked_of s e) h m n in
       rw (step_lines m, step_lines n) r
 
 other_cases : (p : Profile) (s : State) (m : List ℕ) (e k : ℕ) (b : Bool) → executes s e ≡ b → Misses k (pick b (running_writes p (ticked_of s e) m) [])
     → get_or (step_of p s m e).mem k 0 ≡ get_or m k 0
 unfolding running_writes running_of
-other_cases p s m e k true r h = rw (step-runs p s e r m) (fetched-other p (ticked_of s e) m k (fetch_of m (ticked_of s e).iar) h)
-other_cases p s m e k false r h = rw (step-rests p s e r m m).0
+other_cases p s m e k true r h = rw (step_runs p s e r m) (fetched_other p (ticked_of s e) m k (fetch_of m (ticked_of s e).iar) h)
+other_cases p s m e k false r h = rw (step_rests p s e r m m).0
 
 -- a byte that the step does not write stays as it was
 pub writes_only : (p : Profile) (s : State) (m : List ℕ) (e k : ℕ) → Misses k (writes_of p s m e) → get_or (step_of p s m e).mem k 0 ≡ get_or m k 0
@@ -347,22 +347,22 @@ popped_same ra (link a) s m n h = rw (value_same Width.Word m n a h.0)
 popped_same ra (back a) s m n h = refl
 
 module _ (p : Profile) (ra sp ea : ℕ) where
-  pop-same : (m n : List ℕ) → length n ≡ length m → (xs : List Part) (s : State) → Agree m n (served_of (length m) xs)
+  pop_same : (m n : List ℕ) → length n ≡ length m → (xs : List Part) (s : State) → Agree m n (served_of (length m) xs)
       → Goes m n (served_of (length m) xs) (framed_of p StackOp.Lsku ra sp ea xs s m) (framed_of p StackOp.Lsku ra sp ea xs s n)
   unfolding framed_of served_of
-  pop-same m n l [] s h = goes_end _ m n false
-  pop-same m n l (x ∷ xs) s h =
+  pop_same m n l [] s h = goes_end _ m n false
+  pop_same m n l (x ∷ xs) s h =
       rw l
       (goes_same p s m n false (address_of x) (access_of (length m) (address_of x) (size_of x)) (span_of x) (served_of (length m) xs) _ _
       (λ e.
       let q : Agree m n (span_of x ∷ served_of (length m) xs) = rw e at h in
-      rw (popped_same ra x s m n (q.0, tt)) (goes_on_lem m n m n (span_of x) _ _ _ (q.0, tt) (λ k d. d) (pop-same m n l xs (popped ra x m s) q.1))))
+      rw (popped_same ra x s m n (q.0, tt)) (goes_on_lem m n m n (span_of x) _ _ _ (q.0, tt) (λ k d. d) (pop_same m n l xs (popped ra x m s) q.1))))
 
-  push-same : (s : State) (xs : List Part) (m n : List ℕ) → length n ≡ length m
+  push_same : (s : State) (xs : List Part) (m n : List ℕ) → length n ≡ length m
       → Goes m n (served_of (length m) xs) (framed_of p StackOp.Stsku ra sp ea xs s m) (framed_of p StackOp.Stsku ra sp ea xs s n)
   unfolding framed_of served_of
-  push-same s [] m n l = goes_end _ m n false
-  push-same s (x ∷ xs) m n l =
+  push_same s [] m n l = goes_end _ m n false
+  push_same s (x ∷ xs) m n l =
       let a = address_of x in
       let bs = pushed ra x s in
       let w : (b : List ℕ) → length (sets b a bs) ≡ length b = λ b. part_length StackOp.Stsku ra x s b in
@@ -370,7 +370,7 @@ module _ (p : Profile) (ra sp ea : ℕ) where
       (goes_same p s m n true a (access_of (length m) a (size_of x)) (span_of x) (served_of (length m) xs) _ _
       (λ e.
       let h : a + length bs ≤ length m = rw (pushed_length ra x s) (served_inside (length m) a (size_of x) e) in
-      let r = push-same s xs (sets m a bs) (sets n a bs) (w n ∙ l ∙ sym (w m)) in
+      let r = push_same s xs (sets m a bs) (sets n a bs) (w n ∙ l ∙ sym (w m)) in
       goes_on_lem m n (sets m a bs) (sets n a bs) (span_of x) _ _ _
       (λ k b. sets_same bs m n a l h k (rw (pushed_length ra x s) b), tt)
       (λ k d. sets_keeps bs m n a k l h d)
@@ -381,113 +381,113 @@ module _ (p : Profile) (m n : List ℕ) (l : length n ≡ length m) where
   unfolding load_of
   load_same a w h = rw l (loaded_same w m n a (access_of (length m) a (bytes w)) h)
 
-  fetch-same : (a : ℕ) → Agree m n (fetched_at m a) → fetch_of n a ≡ fetch_of m a
+  fetch_same : (a : ℕ) → Agree m n (fetched_at m a) → fetch_of n a ≡ fetch_of m a
   unfolding fetch_of
-  fetch-same a h = rw l (loaded_same Width.Word m n a (fetch_access_of (length m) a) h)
+  fetch_same a h = rw l (loaded_same Width.Word m n a (fetch_access_of (length m) a) h)
 
-  load-double-same : (a : ℕ) → Agree m n (touched_at m a 8) → load_double_of n a ≡ load_double_of m a
+  load_double_same : (a : ℕ) → Agree m n (touched_at m a 8) → load_double_of n a ≡ load_double_of m a
   unfolding load_double_of
-  load-double-same a h = rw l (loaded_double_same m n a (access_of (length m) a 8) h)
+  load_double_same a h = rw l (loaded_double_same m n a (access_of (length m) a 8) h)
 
   -- an instruction that asks nothing of the memory
-  plain-same : (t : State) → Alike [] [] (plain t m) (plain t n)
-  plain-same t = record { st = refl; past = refl; places = refl; written = tt }
+  plain_same : (t : State) → Alike [] [] (plain t m) (plain t n)
+  plain_same t = record { st = refl; past = refl; places = refl; written = tt }
 
   -- a frame whose (RA) is not aligned touches nothing
   picked_same : (b : Bool) (t : State) (xs : List Span) (u v : After) → (b ≡ true → Alike xs xs u v) → Alike (pick b xs []) (pick b xs []) (pick b u (plain t m)) (pick b v (plain t n))
   picked_same true t xs u v f = f refl
-  picked_same false t xs u v f = plain-same t
+  picked_same false t xs u v f = plain_same t
 
   module _ (s : State) where
-    load-at-same : (w : Width) (rt ea : ℕ) (u : Bool) (ra : ℕ) → Agree m n (touched_at m ea (bytes w)) → Alike [] [] (load_at p s m w rt ea u ra) (load_at p s n w rt ea u ra)
+    load_at_same : (w : Width) (rt ea : ℕ) (u : Bool) (ra : ℕ) → Agree m n (touched_at m ea (bytes w)) → Alike [] [] (load_at p s m w rt ea u ra) (load_at p s n w rt ea u ra)
     unfolding load_at
-    load-at-same w rt ea u ra h = record { st = rw (load_same ea w h); past = rw l; places = refl; written = tt }
+    load_at_same w rt ea u ra h = record { st = rw (load_same ea w h); past = rw l; places = refl; written = tt }
 
-    store-at-same : (w : Width) (rs ea : ℕ) (u : Bool) (ra : ℕ) → Alike (touched_at m ea (bytes w)) (touched_at n ea (bytes w)) (store_at p s m w rs ea u ra) (store_at p s n w rs ea u ra)
+    store_at_same : (w : Width) (rs ea : ℕ) (u : Bool) (ra : ℕ) → Alike (touched_at m ea (bytes w)) (touched_at n ea (bytes w)) (store_at p s m w rs ea u ra) (store_at p s n w rs ea u ra)
     unfolding store_at stored_of
-    store-at-same w rs ea u ra =
+    store_at_same w rs ea u ra =
         let bs = bytes_of w (gpr_of s rs) in
         let e : length bs ≡ bytes w = bytes_length w (gpr_of s rs) in
         let b : Agree (written (access_of (length m) ea (bytes w)) m ea bs) (written (access_of (length m) ea (bytes w)) n ea bs) (touched_at m ea (bytes w)) = rw e at (written_same m n ea bs (access_of (length m) ea (length bs)) l refl) in
         record { st = rw l; past = rw l; places = rw l; written = rw l b }
 
-    load-double-at-same : (dt ea : ℕ) (u : Bool) (ra : ℕ) → Agree m n (touched_at m ea 8) → Alike [] [] (load_double_at p s m dt ea u ra) (load_double_at p s n dt ea u ra)
+    load_double_at_same : (dt ea : ℕ) (u : Bool) (ra : ℕ) → Agree m n (touched_at m ea 8) → Alike [] [] (load_double_at p s m dt ea u ra) (load_double_at p s n dt ea u ra)
     unfolding load_double_at
-    load-double-at-same dt ea u ra h = record { st = rw (load-double-same ea h); past = rw l; places = refl; written = tt }
+    load_double_at_same dt ea u ra h = record { st = rw (load_double_same ea h); past = rw l; places = refl; written = tt }
 
-    store-double-at-same : (ds ea : ℕ) (u : Bool) (ra : ℕ) → Alike (touched_at m ea 8) (touched_at n ea 8) (store_double_at p s m ds ea u ra) (store_double_at p s n ds ea u ra)
+    store_double_at_same : (ds ea : ℕ) (u : Bool) (ra : ℕ) → Alike (touched_at m ea 8) (touched_at n ea 8) (store_double_at p s m ds ea u ra) (store_double_at p s n ds ea u ra)
     unfolding store_double_at stored_double_of
-    store-double-at-same ds ea u ra =
+    store_double_at_same ds ea u ra =
         let bs = double_bytes (vdr_of s ds) in
         let e : length bs ≡ 8 = double_length (vdr_of s ds) in
         let b : Agree (written (access_of (length m) ea 8) m ea bs) (written (access_of (length m) ea 8) n ea bs) (touched_at m ea 8) = rw e at (written_same m n ea bs (access_of (length m) ea (length bs)) l refl) in
         record { st = rw l; past = rw l; places = rw l; written = rw l b }
 
-    clear-at-same : (ea : ℕ) → Alike (touched_at m (block_at ea) 32) (touched_at n (block_at ea) 32) (clear_at p s m ea) (clear_at p s n ea)
+    clear_at_same : (ea : ℕ) → Alike (touched_at m (block_at ea) 32) (touched_at n (block_at ea) 32) (clear_at p s m ea) (clear_at p s n ea)
     unfolding clear_at cleared_of
-    clear-at-same ea =
+    clear_at_same ea =
         let b = written_same m n (block_at ea) (replicate 32 0) (access_of (length m) (block_at ea) 32) l refl in
         record { st = rw l; past = rw l; places = rw l; written = rw l b }
 
-    load-store-same : (i : LoadStore) → Agree m n (read_by m (load_store_use s i)) → Alike (written_by m (load_store_use s i)) (written_by n (load_store_use s i)) (load_store_of p s m i) (load_store_of p s n i)
+    load_store_same : (i : LoadStore) → Agree m n (read_by m (load_store_use s i)) → Alike (written_by m (load_store_use s i)) (written_by n (load_store_use s i)) (load_store_of p s m i) (load_store_of p s n i)
     unfolding load_store_of
-    load-store-same (LoadStore.Load w u rt ra d) h = load-at-same w rt (offset_ea s ra d) u ra h
-    load-store-same (LoadStore.LoadIndexed w rt ra rb) h = load-at-same w rt (indexed_ea s ra rb) false ra h
-    load-store-same (LoadStore.Store w u rs ra d) h = store-at-same w rs (offset_ea s ra d) u ra
-    load-store-same (LoadStore.StoreIndexed w rs ra rb) h = store-at-same w rs (indexed_ea s ra rb) false ra
-    load-store-same (LoadStore.LoadDouble u dt ra d) h = load-double-at-same dt (offset_ea s ra d) u ra h
-    load-store-same (LoadStore.StoreDouble u ds ra d) h = store-double-at-same ds (offset_ea s ra d) u ra
+    load_store_same (LoadStore.Load w u rt ra d) h = load_at_same w rt (offset_ea s ra d) u ra h
+    load_store_same (LoadStore.LoadIndexed w rt ra rb) h = load_at_same w rt (indexed_ea s ra rb) false ra h
+    load_store_same (LoadStore.Store w u rs ra d) h = store_at_same w rs (offset_ea s ra d) u ra
+    load_store_same (LoadStore.StoreIndexed w rs ra rb) h = store_at_same w rs (indexed_ea s ra rb) false ra
+    load_store_same (LoadStore.LoadDouble u dt ra d) h = load_double_at_same dt (offset_ea s ra d) u ra h
+    load_store_same (LoadStore.StoreDouble u ds ra d) h = store_double_at_same ds (offset_ea s ra d) u ra
 
     stack_same : (op : StackOp) (ra dd : ℕ) → Agree m n (read_by m (stack_use s op ra dd))
         → Alike (written_by m (stack_use s op ra dd)) (written_by n (stack_use s op ra dd)) (stack_of p s m op ra dd) (stack_of p s n op ra dd)
     unfolding stack_of
     stack_same StackOp.Lsku ra dd h =
-        let r = picked_same (aligned_of (gpr_of s ra) 8) _ _ _ _ (λ e. (pop-same p ra (gpr_of s ra) (frame_ea s ra dd) m n l _ s (rw e at h)).same) in
+        let r = picked_same (aligned_of (gpr_of s ra) 8) _ _ _ _ (λ e. (pop_same p ra (gpr_of s ra) (frame_ea s ra dd) m n l _ s (rw e at h)).same) in
         record { st = r.st; past = r.past; places = refl; written = tt }
     stack_same StackOp.Stsku ra dd h =
-        rw l (picked_same (aligned_of (gpr_of s ra) 8) _ _ _ _ (λ e. (push-same p ra (gpr_of s ra) (frame_ea s ra dd) s _ m n l).same))
+        rw l (picked_same (aligned_of (gpr_of s ra) 8) _ _ _ _ (λ e. (push_same p ra (gpr_of s ra) (frame_ea s ra dd) s _ m n l).same))
 
-    cache-same : (op : CacheOp) (ra rb : ℕ) → Alike (written_by m (cache_use s op ra rb)) (written_by n (cache_use s op ra rb)) (cache_of p s m op ra rb) (cache_of p s n op ra rb)
+    cache_same : (op : CacheOp) (ra rb : ℕ) → Alike (written_by m (cache_use s op ra rb)) (written_by n (cache_use s op ra rb)) (cache_of p s m op ra rb) (cache_of p s n op ra rb)
     unfolding cache_of
-    cache-same CacheOp.Dcbf ra rb = plain-same _
-    cache-same CacheOp.Dcbi ra rb = plain-same _
-    cache-same CacheOp.Dcbt ra rb = plain-same _
-    cache-same CacheOp.Dcbz ra rb = clear-at-same (indexed_ea s ra rb)
+    cache_same CacheOp.Dcbf ra rb = plain_same _
+    cache_same CacheOp.Dcbi ra rb = plain_same _
+    cache_same CacheOp.Dcbt ra rb = plain_same _
+    cache_same CacheOp.Dcbz ra rb = clear_at_same (indexed_ea s ra rb)
 
-    execute-same : (w : ℕ) (i : Instr) → Agree m n (read_by m (execute_use s i)) → Alike (written_by m (execute_use s i)) (written_by n (execute_use s i)) (execute_of p s m w i) (execute_of p s n w i)
+    execute_same : (w : ℕ) (i : Instr) → Agree m n (read_by m (execute_use s i)) → Alike (written_by m (execute_use s i)) (written_by n (execute_use s i)) (execute_of p s m w i) (execute_of p s n w i)
     unfolding execute_of
-    execute-same w (Instr.Arithmetic i) h = plain-same _
-    execute-same w (Instr.Logical i) h = plain-same _
-    execute-same w (Instr.Compare i) h = plain-same _
-    execute-same w (Instr.Rotate i) h = plain-same _
-    execute-same w (Instr.LoadStore i) h = load-store-same i h
-    execute-same w (Instr.Stack dd op rt ra) h = stack_same op ra dd h
-    execute-same w (Instr.Branch i) h = plain-same _
-    execute-same w (Instr.Trap to ra rb tg) h = plain-same _
-    execute-same w (Instr.System i) h = plain-same _
-    execute-same w (Instr.Cache op hint ra rb) h = cache-same op ra rb
+    execute_same w (Instr.Arithmetic i) h = plain_same _
+    execute_same w (Instr.Logical i) h = plain_same _
+    execute_same w (Instr.Compare i) h = plain_same _
+    execute_same w (Instr.Rotate i) h = plain_same _
+    execute_same w (Instr.LoadStore i) h = load_store_same i h
+    execute_same w (Instr.Stack dd op rt ra) h = stack_same op ra dd h
+    execute_same w (Instr.Branch i) h = plain_same _
+    execute_same w (Instr.Trap to ra rb tg) h = plain_same _
+    execute_same w (Instr.System i) h = plain_same _
+    execute_same w (Instr.Cache op hint ra rb) h = cache_same op ra rb
 
-    decoded-same : (w : ℕ) (d : Decoded) → Agree m n (read_by m (decoded_use s d)) → Alike (written_by m (decoded_use s d)) (written_by n (decoded_use s d)) (decoded_of p s m w d) (decoded_of p s n w d)
-    decoded-same w (Decoded.Insn i) h = execute-same w i h
-    decoded-same w Decoded.Illegal h = plain-same _
+    decoded_same : (w : ℕ) (d : Decoded) → Agree m n (read_by m (decoded_use s d)) → Alike (written_by m (decoded_use s d)) (written_by n (decoded_use s d)) (decoded_of p s m w d) (decoded_of p s n w d)
+    decoded_same w (Decoded.Insn i) h = execute_same w i h
+    decoded_same w Decoded.Illegal h = plain_same _
 
-    fetched-same : (f : Loaded) → Agree m n (read_by m (fetched_use p s f)) → Alike (written_by m (fetched_use p s f)) (written_by n (fetched_use p s f)) (fetched_of p s m f) (fetched_of p s n f)
-    fetched-same (Loaded.Value w) h = decoded-same w (decode_on p w) h
-    fetched-same Loaded.Unaligned h = plain-same _
-    fetched-same Loaded.Outside h = record { st = refl; past = refl; places = refl; written = tt }
+    fetched_same : (f : Loaded) → Agree m n (read_by m (fetched_use p s f)) → Alike (written_by m (fetched_use p s f)) (written_by n (fetched_use p s f)) (fetched_of p s m f) (fetched_of p s n f)
+    fetched_same (Loaded.Value w) h = decoded_same w (decode_on p w) h
+    fetched_same Loaded.Unaligned h = plain_same _
+    fetched_same Loaded.Outside h = record { st = refl; past = refl; places = refl; written = tt }
 
-    running-same : Agree m n (running_reads p s m) → Alike (running_writes p s m) (running_writes p s n) (running_of p s m) (running_of p s n)
+    running_same : Agree m n (running_reads p s m) → Alike (running_writes p s m) (running_writes p s n) (running_of p s m) (running_of p s n)
     unfolding running_reads running_writes running_of
-    running-same h =
+    running_same h =
         let both = agree_split m n (fetched_at m s.iar) (read_by m (fetched_use p s (fetch_of m s.iar))) h in
-        rw (fetch-same s.iar both.0) (fetched-same (fetch_of m s.iar) both.1)
+        rw (fetch_same s.iar both.0) (fetched_same (fetch_of m s.iar) both.1)
 
 same_cases : (p : Profile) (m n : List ℕ) → length n ≡ length m → (s : State) (e : ℕ) (b : Bool) → executes s e ≡ b
     → Agree m n (pick b (running_reads p (ticked_of s e) m) [])
     → Alike (pick b (running_writes p (ticked_of s e) m) []) (pick b (running_writes p (ticked_of s e) n) []) (step_of p s m e) (step_of p s n e)
-same_cases p m n l s e true r h = rw (step-runs p s e r m, step-runs p s e r n) (running-same p m n l (ticked_of s e) h)
+same_cases p m n l s e true r h = rw (step_runs p s e r m, step_runs p s e r n) (running_same p m n l (ticked_of s e) h)
 same_cases p m n l s e false r h =
-    let q = step-rests p s e r m n in
+    let q = step_rests p s e r m n in
     record { st = q.1.0; past = q.1.1; places = refl; written = tt }
 
 -- another memory of that length with the same bytes there: the same state, and the same bytes written at the same places

@@ -61,7 +61,7 @@ use Rattle.run.specs.Outcome.{events_good, events_refusal, run_refusal, run_outc
 use Rattle.run.specs.declared.outcome.Outcome.{Outcome}
 use Rattle.promises.specs.Same.{unshared, is_illegal, sets_tg, system_writes, instr_writes, of_instr, of_word, raises, promotes, meets_illegal, meets_check, meets_tg, writes_unshared, some_step, Common, Parts}
 use Rattle.promises.proofs.Clean.{clean_wider}
-use Rattle.promises.proofs.Sound.{Sound, accepted_sound, sound-accepted}
+use Rattle.promises.proofs.Sound.{Sound, accepted_sound, sound_accepted}
 use Rattle.promises.proofs.Accepted.{first_none, second_none}
 use Rattle.promises.proofs.Reaches.{lines, step_lines}
 use Rattle.promises.proofs.Told.{Asynchronous, highest_asynchronous}
@@ -81,8 +81,8 @@ same_under false a b h = refl
 
 -- two masks that differ nowhere where v has a one
 module _ (v a b : ℕ) (h : bit_and v (bit_xor a b) ≡ 0) where
-  masked-bit : (i : ℕ) → bit_at (bit_and v a) i ≡ bit_at (bit_and v b) i
-  masked-bit i =
+  masked_bit : (i : ℕ) → bit_at (bit_and v a) i ≡ bit_at (bit_and v b) i
+  masked_bit i =
       let e : bit_at (bit_and v (bit_xor a b)) i ≡ false = ap (λ (x : ℕ). bit_at x i) h ∙ ap (λ (x : ℕ). eqb (x % 2) 1) (zero-div (2 ^ (31 - i))) in
       let none : (bit_at v i && xor (bit_at a i) (bit_at b i)) ≡ false = rw (sym (bit_xor_lem a b i), sym (bit_and_lem v (bit_xor a b) i)) e in
       bit_and_lem v a i ∙ same_under (bit_at v i) (bit_at a i) (bit_at b i) none ∙ sym (bit_and_lem v b i)
@@ -90,7 +90,7 @@ module _ (v a b : ℕ) (h : bit_and v (bit_xor a b) ≡ 0) where
   masked : a < 2 ^ 32 → b < 2 ^ 32 → bit_and v a ≡ bit_and v b
   masked k l =
       let f : ℕ → Bool = λ i. bit_at (bit_and v b) i in
-      word_is (bit_and v a) f (lt_of_le_of_lt (and_le_r v a) k) (λ i q. masked-bit i) ∙ sym (word_is (bit_and v b) f (lt_of_le_of_lt (and_le_r v b) l) (λ i q. refl))
+      word_is (bit_and v a) f (lt_of_le_of_lt (and_le_r v a) k) (λ i q. masked_bit i) ∙ sym (word_is (bit_and v b) f (lt_of_le_of_lt (and_le_r v b) l) (λ i q. refl))
 
 -- a value with no one in an unshared bit is stored alike
 same_bits : (r : Reg) (v : ℕ) → bit_and v (unshared r) ≡ 0 → bit_and v (defined_of Profile.Ppe42x r) ≡ bit_and v (defined_of Profile.Ppe42 r)
@@ -120,9 +120,9 @@ none_written true h = refl
 none_written false h = never h
 
 module _ (s : State) (n v : ℕ) (h : bit_and v (unshared (spr_of n)) ≡ 0) where
-  dbcr-same : eqb n 308 ≡ true → dbcr_written Profile.Ppe42x s v ≡ dbcr_written Profile.Ppe42 s v
+  dbcr_same : eqb n 308 ≡ true → dbcr_written Profile.Ppe42x s v ≡ dbcr_written Profile.Ppe42 s v
   unfolding dbcr_written spr_of
-  dbcr-same e =
+  dbcr_same e =
       let q : bit_and v (unshared Reg.Dbcr) ≡ 0 = rw (eqb-true n 308 e) at h in
       rw (same_bits Reg.Dbcr v q)
 
@@ -130,19 +130,19 @@ module _ (s : State) (n v : ℕ) (h : bit_and v (unshared (spr_of n)) ≡ 0) whe
   unfolding written
   written_same = rw (same_bits (spr_of n) v h)
 
-  spr-cases : (a b c d : Bool) → eqb n 308 ≡ c → (x y : State)
+  spr_cases : (a b c d : Bool) → eqb n 308 ≡ c → (x y : State)
       → pick a x (pick b (isr_written Profile.Ppe42x s v) (pick c (dbcr_written Profile.Ppe42x s v) (pick d y (written Profile.Ppe42x s (spr_of n) v))))
       ≡ pick a x (pick b (isr_written Profile.Ppe42 s v) (pick c (dbcr_written Profile.Ppe42 s v) (pick d y (written Profile.Ppe42 s (spr_of n) v))))
   unfolding isr_written
-  spr-cases true b c d e x y = refl
-  spr-cases false true c d e x y = refl
-  spr-cases false false true d e x y = dbcr-same e
-  spr-cases false false false true e x y = refl
-  spr-cases false false false false e x y = written_same
+  spr_cases true b c d e x y = refl
+  spr_cases false true c d e x y = refl
+  spr_cases false false true d e x y = dbcr_same e
+  spr_cases false false false true e x y = refl
+  spr_cases false false false false e x y = written_same
 
-  spr-same : spr_written Profile.Ppe42x s n v ≡ spr_written Profile.Ppe42 s n v
+  spr_same : spr_written Profile.Ppe42x s n v ≡ spr_written Profile.Ppe42 s n v
   unfolding spr_written
-  spr-same = spr-cases (eqb n 22) (eqb n 62) (eqb n 308) (eqb n 336) refl _ _
+  spr_same = spr_cases (eqb n 22) (eqb n 62) (eqb n 308) (eqb n 336) refl _ _
 
 -- ---- interrupts
 
@@ -204,91 +204,91 @@ module _ (s : State) (m : List ℕ) where
   load_same Access.Unaligned v rt u ra ea h = h _ refl
   load_same Access.Outside v rt u ra ea h = h _ refl
 
-  load-double-same : (k : Access) (v dt : ℕ) (u : Bool) (ra ea : ℕ) → Fair s (access_raises k ea false)
+  load_double_same : (k : Access) (v dt : ℕ) (u : Bool) (ra ea : ℕ) → Fair s (access_raises k ea false)
       → loaded_double_state Profile.Ppe42x s (loaded_double k v) dt u ra ea ≡ loaded_double_state Profile.Ppe42 s (loaded_double k v) dt u ra ea
-  load-double-same Access.Served v dt u ra ea h = refl
-  load-double-same Access.Unaligned v dt u ra ea h = h _ refl
-  load-double-same Access.Outside v dt u ra ea h = h _ refl
+  load_double_same Access.Served v dt u ra ea h = refl
+  load_double_same Access.Unaligned v dt u ra ea h = h _ refl
+  load_double_same Access.Outside v dt u ra ea h = h _ refl
 
   store_same : (k : Access) (u : Bool) (ra ea : ℕ) → Fair s (access_raises k ea true) → stored_state Profile.Ppe42x s k u ra ea ≡ stored_state Profile.Ppe42 s k u ra ea
   store_same Access.Served u ra ea h = refl
   store_same Access.Unaligned u ra ea h = h _ refl
   store_same Access.Outside u ra ea h = h _ refl
 
-  clear-same : (k : Access) (ea : ℕ) → Fair s (access_raises k ea true) → cleared_state Profile.Ppe42x s k ea ≡ cleared_state Profile.Ppe42 s k ea
-  clear-same Access.Served ea h = refl
-  clear-same Access.Unaligned ea h = h _ refl
-  clear-same Access.Outside ea h = h _ refl
+  clear_same : (k : Access) (ea : ℕ) → Fair s (access_raises k ea true) → cleared_state Profile.Ppe42x s k ea ≡ cleared_state Profile.Ppe42 s k ea
+  clear_same Access.Served ea h = refl
+  clear_same Access.Unaligned ea h = h _ refl
+  clear_same Access.Outside ea h = h _ refl
 
   -- what is left with another state
   leaving : {t u : State} (x : List ℕ) (past : Bool) → t ≡ u → ◌≡◌ {A = After} (record { st = t; mem = x; past = past }) (record { st = u; mem = x; past = past })
   leaving x past e = ap (λ (t : State). record { st = t; mem = x; past = past }) e
 
-  load-store-same : (i : LoadStore) → Fair s (load_store_raises s m i) → load_store_of Profile.Ppe42x s m i ≡ load_store_of Profile.Ppe42 s m i
+  load_store_same : (i : LoadStore) → Fair s (load_store_raises s m i) → load_store_of Profile.Ppe42x s m i ≡ load_store_of Profile.Ppe42 s m i
   unfolding load_store_of load_at store_at load_double_at store_double_at load_of load_double_of
-  load-store-same (LoadStore.Load w u rt ra d) h = leaving _ _ (load_same (access_of (length m) (offset_ea s ra d) (bytes w)) _ rt u ra (offset_ea s ra d) h)
-  load-store-same (LoadStore.LoadIndexed w rt ra rb) h = leaving _ _ (load_same (access_of (length m) (indexed_ea s ra rb) (bytes w)) _ rt false ra (indexed_ea s ra rb) h)
-  load-store-same (LoadStore.Store w u rs ra d) h = leaving _ _ (store_same (access_of (length m) (offset_ea s ra d) (bytes w)) u ra (offset_ea s ra d) h)
-  load-store-same (LoadStore.StoreIndexed w rs ra rb) h = leaving _ _ (store_same (access_of (length m) (indexed_ea s ra rb) (bytes w)) false ra (indexed_ea s ra rb) h)
-  load-store-same (LoadStore.LoadDouble u dt ra d) h = leaving _ _ (load-double-same (access_of (length m) (offset_ea s ra d) 8) _ dt u ra (offset_ea s ra d) h)
-  load-store-same (LoadStore.StoreDouble u ds ra d) h = leaving _ _ (store_same (access_of (length m) (offset_ea s ra d) 8) u ra (offset_ea s ra d) h)
+  load_store_same (LoadStore.Load w u rt ra d) h = leaving _ _ (load_same (access_of (length m) (offset_ea s ra d) (bytes w)) _ rt u ra (offset_ea s ra d) h)
+  load_store_same (LoadStore.LoadIndexed w rt ra rb) h = leaving _ _ (load_same (access_of (length m) (indexed_ea s ra rb) (bytes w)) _ rt false ra (indexed_ea s ra rb) h)
+  load_store_same (LoadStore.Store w u rs ra d) h = leaving _ _ (store_same (access_of (length m) (offset_ea s ra d) (bytes w)) u ra (offset_ea s ra d) h)
+  load_store_same (LoadStore.StoreIndexed w rs ra rb) h = leaving _ _ (store_same (access_of (length m) (indexed_ea s ra rb) (bytes w)) false ra (indexed_ea s ra rb) h)
+  load_store_same (LoadStore.LoadDouble u dt ra d) h = leaving _ _ (load_double_same (access_of (length m) (offset_ea s ra d) 8) _ dt u ra (offset_ea s ra d) h)
+  load_store_same (LoadStore.StoreDouble u ds ra d) h = leaving _ _ (store_same (access_of (length m) (offset_ea s ra d) 8) u ra (offset_ea s ra d) h)
 
-  cache-same : (op : CacheOp) (ra rb : ℕ) → Fair s (cache_raises s m op ra rb) → cache_of Profile.Ppe42x s m op ra rb ≡ cache_of Profile.Ppe42 s m op ra rb
+  cache_same : (op : CacheOp) (ra rb : ℕ) → Fair s (cache_raises s m op ra rb) → cache_of Profile.Ppe42x s m op ra rb ≡ cache_of Profile.Ppe42 s m op ra rb
   unfolding cache_of clear_at
-  cache-same CacheOp.Dcbf ra rb h = refl
-  cache-same CacheOp.Dcbi ra rb h = refl
-  cache-same CacheOp.Dcbt ra rb h = refl
-  cache-same CacheOp.Dcbz ra rb h = leaving _ _ (clear-same (access_of (length m) (block_at (indexed_ea s ra rb)) 32) (indexed_ea s ra rb) h)
+  cache_same CacheOp.Dcbf ra rb h = refl
+  cache_same CacheOp.Dcbi ra rb h = refl
+  cache_same CacheOp.Dcbt ra rb h = refl
+  cache_same CacheOp.Dcbz ra rb h = leaving _ _ (clear_same (access_of (length m) (block_at (indexed_ea s ra rb)) 32) (indexed_ea s ra rb) h)
 
-  trap-cases : (w : ℕ) (a b : Bool) (x y : State) → Fair s (pick a Raised.Nothing (pick b Raised.Nothing (Raised.Raises (Cause.Program w true))))
+  trap_cases : (w : ℕ) (a b : Bool) (x y : State) → Fair s (pick a Raised.Nothing (pick b Raised.Nothing (Raised.Raises (Cause.Program w true))))
       → pick a x (pick b y (interrupted_of Profile.Ppe42x s (Cause.Program w true))) ≡ pick a x (pick b y (interrupted_of Profile.Ppe42 s (Cause.Program w true)))
-  trap-cases w true b x y h = refl
-  trap-cases w false true x y h = refl
-  trap-cases w false false x y h = h _ refl
+  trap_cases w true b x y h = refl
+  trap_cases w false true x y h = refl
+  trap_cases w false false x y h = h _ refl
 
-  system-same : (i : System) → system_writes s i ≡ false → system_of Profile.Ppe42x s i ≡ system_of Profile.Ppe42 s i
+  system_same : (i : System) → system_writes s i ≡ false → system_of Profile.Ppe42x s i ≡ system_of Profile.Ppe42 s i
   unfolding system_of moved_of returned_of written
-  system-same (System.Spr SprOp.Mfspr r n) h = refl
-  system-same (System.Spr SprOp.Mtspr r n) h = ap next_of (spr-same s n (gpr_of s r) (eqb-true _ 0 (none_written _ h)))
-  system-same (System.Move MoveOp.Mfcr r) h = refl
-  system-same (System.Move MoveOp.Mtcr0 r) h = refl
-  system-same (System.Move MoveOp.Mfmsr r) h = refl
-  system-same (System.Move MoveOp.Mtmsr r) h = refl
-  system-same (System.Move MoveOp.Wrtee r) h = refl
-  system-same (System.Wrteei e) h = refl
-  system-same System.Rfi h = refl
-  system-same System.Sync h = refl
+  system_same (System.Spr SprOp.Mfspr r n) h = refl
+  system_same (System.Spr SprOp.Mtspr r n) h = ap next_of (spr_same s n (gpr_of s r) (eqb-true _ 0 (none_written _ h)))
+  system_same (System.Move MoveOp.Mfcr r) h = refl
+  system_same (System.Move MoveOp.Mtcr0 r) h = refl
+  system_same (System.Move MoveOp.Mfmsr r) h = refl
+  system_same (System.Move MoveOp.Mtmsr r) h = refl
+  system_same (System.Move MoveOp.Wrtee r) h = refl
+  system_same (System.Wrteei e) h = refl
+  system_same System.Rfi h = refl
+  system_same System.Sync h = refl
 
-  execute-same : (w : ℕ) (i : Instr) → has Profile.Ppe42 i ≡ true → Fair s (execute_raises Profile.Ppe42 s m w i) → sets_tg i ≡ false → instr_writes s i ≡ false
+  execute_same : (w : ℕ) (i : Instr) → has Profile.Ppe42 i ≡ true → Fair s (execute_raises Profile.Ppe42 s m w i) → sets_tg i ≡ false → instr_writes s i ≡ false
       → execute_of Profile.Ppe42x s m w i ≡ execute_of Profile.Ppe42 s m w i
   unfolding execute_of trap_of
-  execute-same w (Instr.Arithmetic i) o f t u = refl
-  execute-same w (Instr.Logical i) o f t u = refl
-  execute-same w (Instr.Compare i) o f t u = refl
-  execute-same w (Instr.Rotate i) o f t u = refl
-  execute-same w (Instr.LoadStore i) o f t u = load-store-same i f
-  execute-same w (Instr.Stack dd op rt ra) o f t u = never (sym o)
-  execute-same w (Instr.Branch i) o f t u = refl
-  execute-same w (Instr.Trap to ra rb true) o f t u = never t
-  execute-same w (Instr.Trap to ra rb false) o f t u = leaving m false (trap-cases w (eqb to 0 || false) (bit_at s.dbcr 7) _ _ f)
-  execute-same w (Instr.System i) o f t u = leaving m false (system-same i u)
-  execute-same w (Instr.Cache op hint ra rb) o f t u = cache-same op ra rb f
+  execute_same w (Instr.Arithmetic i) o f t u = refl
+  execute_same w (Instr.Logical i) o f t u = refl
+  execute_same w (Instr.Compare i) o f t u = refl
+  execute_same w (Instr.Rotate i) o f t u = refl
+  execute_same w (Instr.LoadStore i) o f t u = load_store_same i f
+  execute_same w (Instr.Stack dd op rt ra) o f t u = never (sym o)
+  execute_same w (Instr.Branch i) o f t u = refl
+  execute_same w (Instr.Trap to ra rb true) o f t u = never t
+  execute_same w (Instr.Trap to ra rb false) o f t u = leaving m false (trap_cases w (eqb to 0 || false) (bit_at s.dbcr 7) _ _ f)
+  execute_same w (Instr.System i) o f t u = leaving m false (system_same i u)
+  execute_same w (Instr.Cache op hint ra rb) o f t u = cache_same op ra rb f
 
   -- what the 42 reads, the 42X reads as the same
-  decoded-same : (w : ℕ) (d : Decoded) → decode_on Profile.Ppe42 w ≡ d → is_illegal d ≡ false → Fair s (decoded_raises Profile.Ppe42 s m w d) → of_instr sets_tg d ≡ false
+  decoded_same : (w : ℕ) (d : Decoded) → decode_on Profile.Ppe42 w ≡ d → is_illegal d ≡ false → Fair s (decoded_raises Profile.Ppe42 s m w d) → of_instr sets_tg d ≡ false
       → of_instr (instr_writes s) d ≡ false → decoded_of Profile.Ppe42x s m w (decode_on Profile.Ppe42x w) ≡ decoded_of Profile.Ppe42 s m w d
-  decoded-same w (Decoded.Insn i) e l f t u = rw (read_on_42x w i e) (execute-same w i (and_true (has Profile.Ppe42 i) (valid_of i) (read_written_on Profile.Ppe42 w i e).0).0 f t u)
-  decoded-same w Decoded.Illegal e l f t u = never l
+  decoded_same w (Decoded.Insn i) e l f t u = rw (read_on_42x w i e) (execute_same w i (and_true (has Profile.Ppe42 i) (valid_of i) (read_written_on Profile.Ppe42 w i e).0).0 f t u)
+  decoded_same w Decoded.Illegal e l f t u = never l
 
-  fetched-same : (k : Loaded) → of_word is_illegal k ≡ false → Fair s (fetched_raises Profile.Ppe42 s m k) → of_word (of_instr sets_tg) k ≡ false → of_word (of_instr (instr_writes s)) k ≡ false
+  fetched_same : (k : Loaded) → of_word is_illegal k ≡ false → Fair s (fetched_raises Profile.Ppe42 s m k) → of_word (of_instr sets_tg) k ≡ false → of_word (of_instr (instr_writes s)) k ≡ false
       → fetched_of Profile.Ppe42x s m k ≡ fetched_of Profile.Ppe42 s m k
-  fetched-same (Loaded.Value w) l f t u = decoded-same w (decode_on Profile.Ppe42 w) refl l f t u
-  fetched-same Loaded.Unaligned l f t u = leaving m false (f _ refl)
-  fetched-same Loaded.Outside l f t u = leaving m true (f _ refl)
+  fetched_same (Loaded.Value w) l f t u = decoded_same w (decode_on Profile.Ppe42 w) refl l f t u
+  fetched_same Loaded.Unaligned l f t u = leaving m false (f _ refl)
+  fetched_same Loaded.Outside l f t u = leaving m true (f _ refl)
 
-  running-same : meets_illegal s m ≡ false → meets_check s m ≡ false → meets_tg s m ≡ false → writes_unshared s m ≡ false → running_of Profile.Ppe42x s m ≡ running_of Profile.Ppe42 s m
+  running_same : meets_illegal s m ≡ false → meets_check s m ≡ false → meets_tg s m ≡ false → writes_unshared s m ≡ false → running_of Profile.Ppe42x s m ≡ running_of Profile.Ppe42 s m
   unfolding meets_illegal meets_check meets_tg writes_unshared running_of raised_of
-  running-same l c t u = fetched-same (fetch_of m s.iar) l (fair s (fetched_raises Profile.Ppe42 s m (fetch_of m s.iar)) c) t u
+  running_same l c t u = fetched_same (fetch_of m s.iar) l (fair s (fetched_raises Profile.Ppe42 s m (fetch_of m s.iar)) c) t u
 
 -- ---- steps and runs
 
@@ -327,14 +327,14 @@ module _ (n i : ℕ) (ev : List ℕ) (s : State) (m : List ℕ) where
   unfolding some_step
   none_here f h = let q = or_false (executes s (get_or ev i 0) && f (ticked_of s (get_or ev i 0)) m) _ h in (clear (executes s (get_or ev i 0)) _ q.0, q.1)
 
-  first-same : Common (suc n) i ev s m → step_of Profile.Ppe42x s m (get_or ev i 0) ≡ left
-  first-same h =
+  first_same : Common (suc n) i ev s m → step_of Profile.Ppe42x s m (get_or ev i 0) ≡ left
+  first_same h =
       step_same s m (get_or ev i 0)
-      (λ e. running-same (ticked_of s (get_or ev i 0)) m ((none_here meets_illegal h.no-illegal).0 e) ((none_here meets_check h.no-check).0 e) ((none_here meets_tg h.no-tg).0 e) ((none_here writes_unshared h.no_write).0 e))
+      (λ e. running_same (ticked_of s (get_or ev i 0)) m ((none_here meets_illegal h.no_illegal).0 e) ((none_here meets_check h.no_check).0 e) ((none_here meets_tg h.no_tg).0 e) ((none_here writes_unshared h.no_write).0 e))
 
-  rest-common : Common (suc n) i ev s m → Common n (suc i) ev left.st left.mem
-  rest-common h =
-      record { no-illegal = (none_here meets_illegal h.no-illegal).1; no-check = (none_here meets_check h.no-check).1; no-tg = (none_here meets_tg h.no-tg).1; no_write = (none_here writes_unshared h.no_write).1 }
+  rest_common : Common (suc n) i ev s m → Common n (suc i) ev left.st left.mem
+  rest_common h =
+      record { no_illegal = (none_here meets_illegal h.no_illegal).1; no_check = (none_here meets_check h.no_check).1; no_tg = (none_here meets_tg h.no_tg).1; no_write = (none_here writes_unshared h.no_write).1 }
 
 -- such a run leaves the same on both, whatever the state: registers, halt code, memory and the count of steps
 pub same_run : (n i : ℕ) (ev : List ℕ) (s : State) (m : List ℕ) → Common n i ev s m → run_of Profile.Ppe42x n i ev s m ≡ run_of Profile.Ppe42 n i ev s m
@@ -342,7 +342,7 @@ unfolding run_of
 same_run zero i ev s m h = refl
 same_run (suc n) i ev s m h =
     let a = step_of Profile.Ppe42 s m (get_or ev i 0) in
-    rw (first-same n i ev s m h) (ap (λ (r : Ran). pick (eqb s.halt 0) r (record { st = s; mem = m; steps = i })) (same_run n (suc i) ev a.st a.mem (rest-common n i ev s m h)))
+    rw (first_same n i ev s m h) (ap (λ (r : Ran). pick (eqb s.halt 0) r (record { st = s; mem = m; steps = i })) (same_run n (suc i) ev a.st a.mem (rest_common n i ev s m h)))
 
 -- and reaches past its memory on both or on neither
 pub same_past : (n i : ℕ) (ev : List ℕ) (s : State) (m : List ℕ) → Common n i ev s m → past_of Profile.Ppe42x n i ev s m ≡ past_of Profile.Ppe42 n i ev s m
@@ -350,7 +350,7 @@ unfolding past_of
 same_past zero i ev s m h = refl
 same_past (suc n) i ev s m h =
     let a = step_of Profile.Ppe42 s m (get_or ev i 0) in
-    rw (first-same n i ev s m h) (ap (λ (b : Bool). pick (eqb s.halt 0) (pick a.past true b) false) (same_past n (suc i) ev a.st a.mem (rest-common n i ev s m h)))
+    rw (first_same n i ev s m h) (ap (λ (b : Bool). pick (eqb s.halt 0) (pick a.past true b) false) (same_past n (suc i) ev a.st a.mem (rest_common n i ev s m h)))
 
 sound_on_42x : (s : State) → Sound Profile.Ppe42 s → Sound Profile.Ppe42x s
 sound_on_42x s k =
@@ -358,18 +358,18 @@ sound_on_42x s k =
 
 module _ (s : State) (m ev : List ℕ) (budget : ℕ) where
   -- a run that the 42 accepts, both accept
-  pub both-accept : run_refusal Profile.Ppe42 s m ev budget ≡ Refusal.None → run_refusal Profile.Ppe42x s m ev budget ≡ Refusal.None
+  pub both_accept : run_refusal Profile.Ppe42 s m ev budget ≡ Refusal.None → run_refusal Profile.Ppe42x s m ev budget ≡ Refusal.None
   unfolding run_refusal start_refusal
-  both-accept h =
+  both_accept h =
       let e : refusal_of Profile.Ppe42 s ≡ Refusal.None = second_none (unless (sized_of (length m)) Refusal.Memory) (refusal_of Profile.Ppe42 s) (first_none (start_refusal Profile.Ppe42 s (length m)) _ h) in
-      let x : refusal_of Profile.Ppe42x s ≡ Refusal.None = sound-accepted (sound_on_42x s (accepted_sound s e)) in
+      let x : refusal_of Profile.Ppe42x s ≡ Refusal.None = sound_accepted (sound_on_42x s (accepted_sound s e)) in
       rw x (rw e at h)
 
   -- C-16: the answer and the memory are the same on both
   pub same_outcome : run_refusal Profile.Ppe42 s m ev budget ≡ Refusal.None → Common budget 0 ev s m
       → (run_outcome Profile.Ppe42x s m ev budget ≡ run_outcome Profile.Ppe42 s m ev budget) × (run_memory Profile.Ppe42x s m ev budget ≡ run_memory Profile.Ppe42 s m ev budget)
   unfolding run_outcome run_memory
-  same_outcome h k = rw (h, both-accept h, same_run budget 0 ev s m k) (refl, refl)
+  same_outcome h k = rw (h, both_accept h, same_run budget 0 ev s m k) (refl, refl)
 
 -- ---- a tw with TG set
 
@@ -402,8 +402,8 @@ unfolding bytes_of decode_on decode_of fields_of reg_of primary primary_rows loa
 tg_parts =
     record {
       accepted = tg_accepted;
-      no-illegal = refl;
-      no-check = refl;
+      no_illegal = refl;
+      no_check = refl;
       no_write = refl;
       differs = λ e. let z : ◌≡◌ {A = ℕ} 0 3 = ap (λ (o : Outcome). o.halt) e in omega (arith, z);
     }

@@ -30,81 +30,81 @@ use Rattle.promises.specs.Reach.{touched, span_of, spans_of, while_served, serve
 use Rattle.promises.specs.Told.{Does, Spares}
 use Rattle.promises.proofs.Sound.{picked}
 use Rattle.promises.proofs.Accepted.{step_length}
-use Rattle.promises.proofs.Faults.{running-faults}
+use Rattle.promises.proofs.Faults.{running_faults}
 use Rattle.promises.proofs.Reaches.{writes_only}
 
 module _ (p : Profile) (s : State) (m : List ℕ) (e : ℕ) where
-  running-does : (r : Raised) → raised_of p (ticked_of s e) m ≡ r → Does p s m e (running_told r) (running_of p (ticked_of s e) m)
-  running-does Raised.Nothing q = (refl, q)
-  running-does (Raised.Raises c) q = running-faults p (ticked_of s e) m c q
+  running_does : (r : Raised) → raised_of p (ticked_of s e) m ≡ r → Does p s m e (running_told r) (running_of p (ticked_of s e) m)
+  running_does Raised.Nothing q = (refl, q)
+  running_does (Raised.Raises c) q = running_faults p (ticked_of s e) m c q
 
-  awake-does : (w : Bool) → Does p s m e (pick w Told.Waits (running_told (raised_of p (ticked_of s e) m))) (pick w (plain (ticked_of s e) m) (running_of p (ticked_of s e) m))
-  awake-does true = refl
-  awake-does false = running-does (raised_of p (ticked_of s e) m) refl
+  awake_does : (w : Bool) → Does p s m e (pick w Told.Waits (running_told (raised_of p (ticked_of s e) m))) (pick w (plain (ticked_of s e) m) (running_of p (ticked_of s e) m))
+  awake_does true = refl
+  awake_does false = running_does (raised_of p (ticked_of s e) m) refl
 
-  interruptible-does : (k : Pending) → Does p s m e (interruptible_told p (ticked_of s e) m k) (interruptible_of p (ticked_of s e) m k)
+  interruptible_does : (k : Pending) → Does p s m e (interruptible_told p (ticked_of s e) m k) (interruptible_of p (ticked_of s e) m k)
   unfolding awake_of
-  interruptible-does (Pending.Take v) = refl
-  interruptible-does Pending.Nothing = awake-does (bit_at (ticked_of s e).msr 13)
+  interruptible_does (Pending.Take v) = refl
+  interruptible_does Pending.Nothing = awake_does (bit_at (ticked_of s e).msr 13)
 
-  acts-does : (a : Bool) (k : Pending)
+  acts_does : (a : Bool) (k : Pending)
       → Does p s m e (pick a Told.Acts (interruptible_told p (ticked_of s e) m k)) (pick a (plain (acted_of (ticked_of s e)) m) (interruptible_of p (ticked_of s e) m k))
-  acts-does true k = refl
-  acts-does false k = interruptible-does k
+  acts_does true k = refl
+  acts_does false k = interruptible_does k
 
-  halt-does : (h a : Bool) (k : Pending)
+  halt_does : (h a : Bool) (k : Pending)
       → Does p s m e (pick h (pick a Told.Acts (interruptible_told p (ticked_of s e) m k)) Told.Halted)
       (pick h (pick a (plain (acted_of (ticked_of s e)) m) (interruptible_of p (ticked_of s e) m k)) (plain s m))
-  halt-does true a k = acts-does a k
-  halt-does false a k = refl
+  halt_does true a k = acts_does a k
+  halt_does false a k = refl
 
   -- what is told is what the step does
-  pub told-true : Does p s m e (told_of p s m e) (step_of p s m e)
+  pub told_true : Does p s m e (told_of p s m e) (step_of p s m e)
   unfolding told_of step_of counted_of
-  told-true = halt-does (eqb s.halt 0) (acts_of s e) (highest_of (ticked_of s e) e)
+  told_true = halt_does (eqb s.halt 0) (acts_of s e) (highest_of (ticked_of s e) e)
 
   -- what is written is what is told to be written
-  written-told : (b : Bool) (u : Use) → pick b (written_by m u) [] ≡ written_by m (pick b u Use.Idle)
-  written-told true u = refl
-  written-told false u = refl
+  written_told : (b : Bool) (u : Use) → pick b (written_by m u) [] ≡ written_by m (pick b u Use.Idle)
+  written_told true u = refl
+  written_told false u = refl
 
-  writes-told : writes_of p s m e ≡ written_by m (use_of p s m e)
+  writes_told : writes_of p s m e ≡ written_by m (use_of p s m e)
   unfolding writes_of use_of running_writes
-  writes-told = written-told (executes s e) (fetched_use p (ticked_of s e) (fetch_of m (ticked_of s e).iar))
+  writes_told = written_told (executes s e) (fetched_use p (ticked_of s e) (fetch_of m (ticked_of s e).iar))
 
-  misses-told : (i a n : ℕ) (k : Access) → (i < a) ⊎ (a + n ≤ i) → Misses i (touched k a n)
-  misses-told i a n Access.Served h = (h, tt)
-  misses-told i a n Access.Unaligned h = tt
-  misses-told i a n Access.Outside h = tt
+  misses_told : (i a n : ℕ) (k : Access) → (i < a) ⊎ (a + n ≤ i) → Misses i (touched k a n)
+  misses_told i a n Access.Served h = (h, tt)
+  misses_told i a n Access.Unaligned h = tt
+  misses_told i a n Access.Outside h = tt
 
   -- what is outside all accesses of a frame is outside those that were served
-  misses-served : (i len : ℕ) (xs : List Part) → Misses i (spans_of xs) → Misses i (served_of len xs)
+  misses_served : (i len : ℕ) (xs : List Part) → Misses i (spans_of xs) → Misses i (served_of len xs)
   unfolding spans_of served_of
-  misses-served i len [] h = tt
-  misses-served i len (x ∷ xs) h = go (access_of len (address_of x) (size_of x)) (misses-served i len xs h.1)
+  misses_served i len [] h = tt
+  misses_served i len (x ∷ xs) h = go (access_of len (address_of x) (size_of x)) (misses_served i len xs h.1)
     where
       go : (k : Access) → Misses i (served_of len xs) → Misses i (while_served k (span_of x) (served_of len xs))
       go Access.Served q = (h.0, q)
       go Access.Unaligned q = tt
       go Access.Outside q = tt
 
-  misses-frame : (i len : ℕ) (b : Bool) (xs : List Part) → Misses i (spans_of xs) → Misses i (pick b (served_of len xs) [])
-  misses-frame i len true xs h = misses-served i len xs h
-  misses-frame i len false xs h = tt
+  misses_frame : (i len : ℕ) (b : Bool) (xs : List Part) → Misses i (spans_of xs) → Misses i (pick b (served_of len xs) [])
+  misses_frame i len true xs h = misses_served i len xs h
+  misses_frame i len false xs h = tt
 
   same : ((i : ℕ) → Misses i (writes_of p s m e)) → (step_of p s m e).mem ≡ m
   same h = ext_get_or 0 (step_of p s m e).mem m (step_length p s m e) (λ i l. writes_only p s m e i (h i))
 
-  spares-cases : (u : Use) → writes_of p s m e ≡ written_by m u → Spares m u (step_of p s m e).mem
-  spares-cases Use.Idle q = same (λ i. rw q tt)
-  spares-cases (Use.Reads a n) q = same (λ i. rw q tt)
-  spares-cases (Use.Writes a n) q = λ i h. writes_only p s m e i (rw q (misses-told i a n (access_of (length m) a n) h))
-  spares-cases (Use.Pops sp ea n) q = same (λ i. rw q tt)
-  spares-cases (Use.Pushes sp ea n) q = λ i h. writes_only p s m e i (rw q (misses-frame i (length m) (aligned_of sp 8) (parts_of StackOp.Stsku sp ea n) h))
+  spares_cases : (u : Use) → writes_of p s m e ≡ written_by m u → Spares m u (step_of p s m e).mem
+  spares_cases Use.Idle q = same (λ i. rw q tt)
+  spares_cases (Use.Reads a n) q = same (λ i. rw q tt)
+  spares_cases (Use.Writes a n) q = λ i h. writes_only p s m e i (rw q (misses_told i a n (access_of (length m) a n) h))
+  spares_cases (Use.Pops sp ea n) q = same (λ i. rw q tt)
+  spares_cases (Use.Pushes sp ea n) q = λ i h. writes_only p s m e i (rw q (misses_frame i (length m) (aligned_of sp 8) (parts_of StackOp.Stsku sp ea n) h))
 
   -- a step changes no byte outside the access that is told, and none where that does not write
-  pub use-true : Spares m (use_of p s m e) (step_of p s m e).mem
-  use-true = spares-cases (use_of p s m e) writes-told
+  pub use_true : Spares m (use_of p s m e) (step_of p s m e).mem
+  use_true = spares_cases (use_of p s m e) writes_told
 
 -- ---- the interrupts that a step takes have codes of their own
 

@@ -22,22 +22,22 @@ use Rattle.run.specs.Run.{Ran, run_of}
 use Rattle.run.specs.Outcome.{events_refusal, run_refusal, run_outcome, run_memory}
 use Rattle.until.specs.Until.{stop_at, until_of, until_outcome, until_memory}
 use Rattle.promises.specs.Stopped.{stopped_of, run_stopped}
-use Rattle.promises.proofs.Cut.{metOf, cut_of, cut-within, both_true, cut-is-run, cut-ends-first}
+use Rattle.promises.proofs.Cut.{met_of, cut_of, cut_within, both_true, cut_is_run, cut_ends_first}
 use Rattle.promises.proofs.Demands.{run_ends, used_budget}
 
 abbrev stopped : List ℕ → After → Bool
 stopped stops a = stop_at stops a.st.iar
 
 module _ (p : Profile) (stops : List ℕ) where
-  stopped-met : (n i : ℕ) (ev : List ℕ) (s : State) (m : List ℕ) → stopped_of p stops n i ev s m ≡ metOf p (stopped stops) n i ev s m
-  unfolding stopped_of metOf
-  stopped-met zero i ev s m = refl
-  stopped-met (suc n) i ev s m = rw (stopped-met n (suc i) ev (step_of p s m (get_or ev i 0)).st (step_of p s m (get_or ev i 0)).mem)
+  stopped_met : (n i : ℕ) (ev : List ℕ) (s : State) (m : List ℕ) → stopped_of p stops n i ev s m ≡ met_of p (stopped stops) n i ev s m
+  unfolding stopped_of met_of
+  stopped_met zero i ev s m = refl
+  stopped_met (suc n) i ev s m = rw (stopped_met n (suc i) ev (step_of p s m (get_or ev i 0)).st (step_of p s m (get_or ev i 0)).mem)
 
-  until-cut : (n i : ℕ) (ev : List ℕ) (s : State) (m : List ℕ) → until_of p stops n i ev s m ≡ cut_of p (stopped stops) n i ev s m
+  until_cut : (n i : ℕ) (ev : List ℕ) (s : State) (m : List ℕ) → until_of p stops n i ev s m ≡ cut_of p (stopped stops) n i ev s m
   unfolding until_of cut_of
-  until-cut zero i ev s m = refl
-  until-cut (suc n) i ev s m = rw (until-cut n (suc i) ev (step_of p s m (get_or ev i 0)).st (step_of p s m (get_or ev i 0)).mem)
+  until_cut zero i ev s m = refl
+  until_cut (suc n) i ev s m = rw (until_cut n (suc i) ev (step_of p s m (get_or ev i 0)).st (step_of p s m (get_or ev i 0)).mem)
 
   turn_at : (go at rest : Bool) (f : ℕ → Ran) (k : ℕ) (halted : Ran) → pick go (pick at true rest) false ≡ true
       → (at ≡ true → stop_at stops (f 0).st.iar ≡ true) → (rest ≡ true → stop_at stops (f k).st.iar ≡ true) → stop_at stops (pick go (f (pick at 0 k)) halted).st.iar ≡ true
@@ -64,30 +64,30 @@ smaller_budget p s m ev budget n l h =
 
 module _ (p : Profile) (s : State) (m ev stops : List ℕ) (budget : ℕ) where
   -- accepted: outcome and memory are those of the run whose budget is the steps that it took
-  pub until-as-many : accepts_of (run_refusal p s m ev budget) ≡ true
+  pub until_as_many : accepts_of (run_refusal p s m ev budget) ≡ true
       → (let n = (until_outcome p s m ev stops budget).steps in (until_outcome p s m ev stops budget ≡ run_outcome p s m ev n) × (until_memory p s m ev stops budget ≡ run_memory p s m ev n))
   unfolding until_outcome until_memory run_outcome run_memory
-  until-as-many h =
+  until_as_many h =
       let c = until_of p stops budget 0 ev s m in
       let n = (run_of p c 0 ev s m).steps in
-      let w : c ≤ budget = rw (until-cut p stops budget 0 ev s m) (cut-within p (stopped stops) budget 0 ev s m) in
+      let w : c ≤ budget = rw (until_cut p stops budget 0 ev s m) (cut_within p (stopped stops) budget 0 ev s m) in
       let l : n ≤ budget = let e = run_ends p c ev s m in omega (arith, e, w) in
       let q : run_of p n 0 ev s m ≡ run_of p c 0 ev s m = rw sub-zero at (used_budget p c 0 ev s m) in
       rw h (rw (smaller_budget p s m ev budget n l h, h, q) (refl, refl))
 
   -- no step comes to a stop: they are the plain run's with the whole budget
-  pub until-is-run : run_stopped p s m ev stops budget ≡ false
+  pub until_is_run : run_stopped p s m ev stops budget ≡ false
       → (until_outcome p s m ev stops budget ≡ run_outcome p s m ev budget) × (until_memory p s m ev stops budget ≡ run_memory p s m ev budget)
   unfolding run_stopped until_outcome until_memory run_outcome run_memory
-  until-is-run h =
-      rw (until-cut p stops budget 0 ev s m) (cut-is-run p (stopped stops) (run_refusal p s m ev budget) s m ev budget (rw (stopped-met p stops budget 0 ev s m) at h))
+  until_is_run h =
+      rw (until_cut p stops budget 0 ev s m) (cut_is_run p (stopped stops) (run_refusal p s m ev budget) s m ev budget (rw (stopped_met p stops budget 0 ev s m) at h))
 
   -- one does: of the steps taken the last is the first that did, and IAR is at that stop
-  pub until-ends-first : run_stopped p s m ev stops budget ≡ true
+  pub until_ends_first : run_stopped p s m ev stops budget ≡ true
       → (let o = until_outcome p s m ev stops budget in
       (stopped_of p stops (o.steps - 1) 0 ev s m ≡ false) × ((stopped_of p stops o.steps 0 ev s m ≡ true) × (stop_at stops o.state.iar ≡ true)))
   unfolding run_stopped until_outcome
-  until-ends-first h =
+  until_ends_first h =
       let t = both_true (accepts_of (run_refusal p s m ev budget)) (stopped_of p stops budget 0 ev s m) h in
-      let f = cut-ends-first p (stopped stops) (run_refusal p s m ev budget) s m ev budget (rw (stopped-met p stops budget 0 ev s m) at h) in
-      (rw (until-cut p stops budget 0 ev s m, stopped-met) f.1.1.0, (rw (until-cut p stops budget 0 ev s m, stopped-met) f.1.1.1, rw t.0 (ends_at p stops budget 0 ev s m t.1)))
+      let f = cut_ends_first p (stopped stops) (run_refusal p s m ev budget) s m ev budget (rw (stopped_met p stops budget 0 ev s m) at h) in
+      (rw (until_cut p stops budget 0 ev s m, stopped_met) f.1.1.0, (rw (until_cut p stops budget 0 ev s m, stopped_met) f.1.1.1, rw t.0 (ends_at p stops budget 0 ev s m t.1)))

@@ -16,6 +16,6 @@ grown_run x r = record { st = r.st; mem = r.mem ++ x; steps = r.steps }
 -- first the second has the same registers and halt, the same bytes in the common part, and its extra bytes as given; it goes on from there; and if the
 -- first halted, the second halts there too.
 pub record NeverAlters (p : Profile) (s : State) (m x ev : List ℕ) (budget more : ℕ) : Type 0 where
-  pub after-as-many : run_of p (run_of p budget 0 ev s m).steps 0 ev s (m ++ x) ≡ grown_run x (run_of p budget 0 ev s m)
-  pub goes_on_lem : (let r = run_of p budget 0 ev s m in run_of p (budget + more) 0 ev s (m ++ x) ≡ run_of p more r.steps ev r.st (r.mem ++ x))
-  pub halts-there : ((run_of p budget 0 ev s m).st.halt ≡ 0 → ⊥) → run_of p (budget + more) 0 ev s (m ++ x) ≡ grown_run x (run_of p budget 0 ev s m)
+  pub after_as_many : run_of p (run_of p budget 0 ev s m).steps 0 ev s (m ++ x) ≡ grown_run x (run_of p budget 0 ev s m)
+  pub goes_on : (let r = run_of p budget 0 ev s m in run_of p (budget + more) 0 ev s (m ++ x) ≡ run_of p more r.steps ev r.st (r.mem ++ x))
+  pub halts_there : ((run_of p budget 0 ev s m).st.halt ≡ 0 → ⊥) → run_of p (budget + more) 0 ev s (m ++ x) ≡ grown_run x (run_of p budget 0 ev s m)

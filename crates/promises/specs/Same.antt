@@ -110,15 +110,15 @@ some_step f (suc n) i ev s m =
 
 -- a run of n steps of the 42, with i taken: it meets no illegal word, no machine check and no tw with TG set, and never writes a one to a bit that only one profile defines
 pub record Common (n i : ℕ) (ev : List ℕ) (s : State) (m : List ℕ) : Type 0 where
-  pub no-illegal : some_step meets_illegal n i ev s m ≡ false
-  pub no-check : some_step meets_check n i ev s m ≡ false
-  pub no-tg : some_step meets_tg n i ev s m ≡ false
+  pub no_illegal : some_step meets_illegal n i ev s m ≡ false
+  pub no_check : some_step meets_check n i ev s m ≡ false
+  pub no_tg : some_step meets_tg n i ev s m ≡ false
   pub no_write : some_step writes_unshared n i ev s m ≡ false
 
 -- a run that both profiles accept and that meets no illegal word and no machine check and writes no such bit, and that is not the same on both
 pub record Parts (s : State) (m ev : List ℕ) (budget : ℕ) : Type 0 where
   pub accepted : (p : Profile) → run_refusal p s m ev budget ≡ Refusal.None
-  pub no-illegal : some_step meets_illegal budget 0 ev s m ≡ false
-  pub no-check : some_step meets_check budget 0 ev s m ≡ false
+  pub no_illegal : some_step meets_illegal budget 0 ev s m ≡ false
+  pub no_check : some_step meets_check budget 0 ev s m ≡ false
   pub no_write : some_step writes_unshared budget 0 ev s m ≡ false
   pub differs : run_outcome Profile.Ppe42x s m ev budget ≡ run_outcome Profile.Ppe42 s m ev budget → ⊥

@@ -1,1 +1,2 @@
 // The promises are theorems about the definitions; this crate has no code. Read docs/PROMISES.md.
+#![tactic(auto)]
