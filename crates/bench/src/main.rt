@@ -1,10 +1,13 @@
 // The small program: runs a capture from standard input for 1,000 steps and prints one line.
-ghost use Rattle.std.specs.Prelude.{◌≡◌, ◌%◌};
+#![tactic(auto)]
+
+ghost use Rattle.std.specs.Prelude.{◌≡◌, ◌%◌, ◌≤◌, length, IfOk};
 ghost use Rattle.bench.specs.Hex.{hex_digit, hex_of};
 
 use insn::profile::Profile;
-use libc::{STDIN_FILENO, STDOUT_FILENO};
 use machine::refusal::{accepts, number};
+use std::io;
+use std::io::{Read, Write};
 
 // An upper-case hex digit.
 fn hex_digit(n: u32) -> u8
@@ -30,25 +33,19 @@ fn hex(word: u32) -> [u8; 8]
     ]
 }
 
-fn print_refused(no: u32) {
-    io::write_all(STDOUT_FILENO, b"refused ");
-    io::print_decimal(STDOUT_FILENO, no as u64);
-    io::write_all(STDOUT_FILENO, b"\n");
+fn print_refused(rt: &impl Print, no: u32) -> io::Result<()> {
+    println!(rt; "refused {no}")
 }
 
-fn print_line(steps: u32, halt: u32, iar: u32) {
-    io::write_all(STDOUT_FILENO, b"steps ");
-    io::print_decimal(STDOUT_FILENO, steps as u64);
-    io::write_all(STDOUT_FILENO, b" halt ");
-    io::print_decimal(STDOUT_FILENO, halt as u64);
-    io::write_all(STDOUT_FILENO, b" iar ");
+fn print_line(rt: &impl Print, steps: u32, halt: u32, iar: u32) -> io::Result<()> {
+    print!(rt; "steps {steps} halt {halt} iar ")?;
     let digits = hex(iar);
-    io::write_all(STDOUT_FILENO, &digits);
-    io::write_all(STDOUT_FILENO, b"\n");
+    io::writer(rt).write_all(&digits)?;
+    println!(rt; "")
 }
 
 // The capture is played in its own memory part.
-fn play(file: &mut [u8]) {
+fn play(rt: &impl Print, file: &mut [u8]) -> io::Result<()> {
     let start = capture::read::state_of(Profile::Ppe42, &file[..]);
     let refusal = start.refusal;
     if accepts(refusal) {
@@ -56,18 +53,33 @@ fn play(file: &mut [u8]) {
         let size = capture::read::memory_part(Profile::Ppe42, &file[..]).len();
         let outcome = run::run::run(Profile::Ppe42, state, &mut file[..size], b"", 1000);
         let iar = outcome.state.iar;
-        print_line(outcome.steps, outcome.halt, iar);
+        print_line(rt, outcome.steps, outcome.halt, iar)
     } else {
-        print_refused(number(refusal));
+        print_refused(rt, number(refusal))
     }
 }
 
-fn main() {
+// Reads until the buffer is full or the input ends, and says how many bytes came.
+fn read_full(input: &mut impl Read, buffer: &mut [u8]) -> io::Result<usize>
+    ensures { IfOk result (λ n. n ≤ length buffer.new) }
+{
+    let mut n = 0;
+    for _ in 0..buffer.len() {
+        let got = input.read(&mut buffer[n..])?;
+        if got == 0 {
+            break;
+        }
+        n += got;
+    }
+    Ok(n)
+}
+
+fn main(rt: HostRuntime) -> io::Result<()> {
     let mut buffer = [0u8; 65537];
-    let n = io::read_full(STDIN_FILENO, &mut buffer);
+    let n = read_full(&mut rt.reader(), &mut buffer)?;
     if n > 65536 {
-        io::write_all(STDOUT_FILENO, b"too long\n");
+        println!(rt; "too long")
     } else {
-        play(&mut buffer[..n]);
+        play(&rt, &mut buffer[..n])
     }
 }

@@ -18,30 +18,30 @@ use Rattle.run.specs.Outcome.{step_refusal, answered, step_outcome, step_memory}
 use Rattle.run.specs.Lent.{after, lent_of}
 
 module _ (p : Profile) (s : State) (m : List ℕ) where
-  ran-most : (b : Bool) (r : Ran) → r.steps ≤ 1 → (pick b r (record { st = s; mem = m; steps = 0 })).steps ≤ 1
-  ran-most true r h = h
-  ran-most false r h = omega arith
+  ran_most : (b : Bool) (r : Ran) → r.steps ≤ 1 → (pick b r (record { st = s; mem = m; steps = 0 })).steps ≤ 1
+  ran_most true r h = h
+  ran_most false r h = omega arith
 
-  answered-most : (r : Refusal) (b : Bool) → accepts_of r ≡ b → (ran : Ran) → ran.steps ≤ 1 → (answered r s ran).steps ≤ 1
-  answered-most r true e ran h = rw e h
-  answered-most r false e ran h = rw e (omega arith)
+  answered_most : (r : Refusal) (b : Bool) → accepts_of r ≡ b → (ran : Ran) → ran.steps ≤ 1 → (answered r s ran).steps ≤ 1
+  answered_most r true e ran h = rw e h
+  answered_most r false e ran h = rw e (omega arith)
 
   -- a step counts at most one
   pub one_at_most : (e : ℕ) → (step_outcome p s m e).steps ≤ 1
   unfolding step_outcome run_of
   one_at_most e =
-      answered-most (step_refusal p s m e) (accepts_of (step_refusal p s m e)) refl (run_of p 1 0 (e ∷ []) s m)
-      (ran-most (eqb s.halt 0) (record { st = (step_of p s m e).st; mem = (step_of p s m e).mem; steps = 1 }) (omega arith))
+      answered_most (step_refusal p s m e) (accepts_of (step_refusal p s m e)) refl (run_of p 1 0 (e ∷ []) s m)
+      (ran_most (eqb s.halt 0) (record { st = (step_of p s m e).st; mem = (step_of p s m e).mem; steps = 1 }) (omega arith))
 
-  pub lent-more : (b i n : ℕ) → i < b
+  pub lent_more : (b i n : ℕ) → i < b
       → after n (lent_of p (b - i) i [] s m) ≡ after (n + (step_outcome p s m 0).steps) (lent_of p (b - (i + 1)) (i + 1) [] (step_outcome p s m 0).state (step_memory p s m 0))
   unfolding lent_of
-  lent-more b i n h =
+  lent_more b i n h =
       let e : b - i ≡ suc (b - (i + 1)) = omega arith in
       rw (e, add-one, add_assoc)
 
-  pub lent-spent : (b i n : ℕ) → b ≤ i → after n (lent_of p (b - i) i [] s m) ≡ record { st = s; mem = m; steps = n }
+  pub lent_spent : (b i n : ℕ) → b ≤ i → after n (lent_of p (b - i) i [] s m) ≡ record { st = s; mem = m; steps = n }
   unfolding lent_of
-  lent-spent b i n h =
+  lent_spent b i n h =
       let e : b - i ≡ 0 = omega arith in
       rw (e, add-zero)

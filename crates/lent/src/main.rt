@@ -1,17 +1,19 @@
 // Lends a state to the single step, turn after turn, and says whether it ends where a run ends.
+#![tactic(auto)]
+
 ghost use Rattle.std.specs.Prelude.{◌≡◌, []};
 ghost use Rattle.insn.specs.declared.profile.Profile.{Profile};
 ghost use Rattle.run.specs.Outcome.{step_outcome, step_memory};
 ghost use Rattle.run.specs.Lent.{lent_of};
 
 use insn::profile::Profile;
-use libc::STDOUT_FILENO;
 use machine::state::State;
 use run::lent::{Answer, step_lent};
 use run::outcome::Outcome;
+use std::io;
 
 // What a loop of lent steps leaves beside the memory.
-#[derive(Drop)]
+#[derive(Clone, Copy)]
 struct Left {
     state: State,
     steps: u32,
@@ -66,20 +68,14 @@ fn same_state(a: State, b: State) -> bool {
     let mut y = [0u8; 144];
     capture::words::put_state(&mut x, 0, a);
     capture::words::put_state(&mut y, 0, b);
-    check::same(&x, &y)
+    x == y
 }
 
-fn print_end(steps: u32, halt: u32, iar: u32) {
-    io::write_all(STDOUT_FILENO, b"lent steps end as the run: steps ");
-    io::print_decimal(STDOUT_FILENO, steps as u64);
-    io::write_all(STDOUT_FILENO, b" halt ");
-    io::print_decimal(STDOUT_FILENO, halt as u64);
-    io::write_all(STDOUT_FILENO, b" iar ");
-    io::print_hex(STDOUT_FILENO, iar as u64, 8);
-    io::write_all(STDOUT_FILENO, b"\n");
+fn print_end(rt: &impl Print, steps: u32, halt: u32, iar: u32) -> io::Result<()> {
+    println!(rt; "lent steps end as the run: steps {steps} halt {halt} iar {iar:08x}")
 }
 
-fn main() {
+fn main(rt: HostRuntime) -> io::Result<()> {
     let start = capture::words::state_of_words([0; 36]);
     let mut mem = program();
     let mut lent = program();
@@ -87,9 +83,9 @@ fn main() {
     let left = lent_run(start, &mut lent, 1000);
     let state = outcome.state;
     let other = left.state;
-    if check::same(&mem, &lent) & same_state(state, other) & (outcome.steps == left.steps) {
-        print_end(left.steps, other.halt, other.iar);
+    if (mem == lent) & same_state(state, other) & (outcome.steps == left.steps) {
+        print_end(&rt, left.steps, other.halt, other.iar)
     } else {
-        io::write_all(STDOUT_FILENO, b"lent steps end otherwise\n");
+        println!(rt; "lent steps end otherwise")
     }
 }
