@@ -1,35 +1,26 @@
 -- A line's answer is small enough for its places. Assumes nothing.
-use Prim.Native.Nat.{ℕ, ◌+◌, ◌*◌, ◌^◌, ◌<◌, ◌≤◌}
+use Prim.Native.Nat.{ℕ, ◌≤◌}
 use native.Mathlib.Omega.{arith}
-use mathlib.Core.Bool.{Bool, true, false}
-use mathlib.Core.Path.{◌≡◌, sym, ap, ◌∙◌}
+use mathlib.Core.Bool.{Bool, true, false, not}
+use mathlib.Core.Path.{◌≡◌, ap}
 use mathlib.Core.List.{List}
 use lib.Dec.{ltb}
 use lib.ListN.{length}
+use Rattle.std.specs.Prelude.{Option, Some, None, Ok, Err}
 use Rattle.expr.specs.Grammar.{pick as choose}
-use Rattle.insn.specs.declared.profile.Profile.{Profile}
-use Rattle.insn.specs.declared.instr.Decoded.{Decoded}
-use Rattle.asm.specs.Answer.{Answer}
+use Rattle.insn.specs.declared.instr.Instr.{Instr}
+use Rattle.syntax.specs.Syntax.{plain}
 use Rattle.syntax.specs.LineOf.{line_of}
-use Rattle.asm.specs.Listing.{line_listed, listed_of}
-use Rattle.asm.specs.declared.assemble.Assembled.{Assembled}
-use Rattle.asm.specs.declared.disassemble.Listed.{Listed}
+use Rattle.asm.specs.Listing.{Listed, line_listed, listed_of}
+use Rattle.asm.specs.declared.disassemble.Listing.{Listing}
+use Rattle.asm.specs.declared.disassemble.Unlisted.{Unlisted}
 use Rattle.asm.proofs.Back.{line_length}
-use Rattle.asm.proofs.Columns.{answer_small}
-use Rattle.abi_asm.specs.Lines.{listed_answer}
 
--- a line's answer is small, and so is a line's length
-pub packed_fits : (p : Profile) (s : List ℕ) (a : Assembled) → Answer p s a → (a.column * 2 ^ 32 < 2 ^ 60) × (a.refusal * 2 ^ 48 + a.column * 2 ^ 32 < 2 ^ 60)
-packed_fits p s a h = let b = answer_small p s a h in (omega (arith, b.0), omega (arith, b.0, b.1))
+-- a line's length is small
+line_case : (b : Bool) (d : Option Instr) (l : Listing) → ◌≡◌ {A = Listed} (Ok l) (choose b (Err Unlisted.Short) (line_listed d)) → l.bytes ≤ 64
+line_case true d l e = let z : ◌≡◌ {A = ℕ} 0 1 = cc in let y : ⊥ = omega arith in absurd y
+line_case false None l e = let z : ◌≡◌ {A = ℕ} 0 1 = cc in let y : ⊥ = omega arith in absurd y
+line_case false (Some i) l e = let q : l ≡ record { bytes = length (line_of i); more = not (plain i) } = cc in let n : l.bytes ≡ length (line_of i) = ap (λ (x : Listing). x.bytes) q in omega (arith, line_length i)
 
-line_case : (b : Bool) (d : Decoded) (n : ℕ) (more : Bool) → Listed.Line n more ≡ choose b Listed.Refused (line_listed d) → n ≤ 64
-line_case true d n more e = let z : ◌≡◌ {A = ℕ} 0 1 = cc in let y : ⊥ = omega arith in absurd y
-line_case false Decoded.Illegal n more e = let z : ◌≡◌ {A = ℕ} 0 1 = cc in let y : ⊥ = omega arith in absurd y
-line_case false (Decoded.Insn i) n more e = let q : n ≡ length (line_of i) = cc in omega (arith, line_length i)
-
-pub listed_fits : (d : Decoded) (out : List ℕ) (r : Listed) (n : ℕ) (more : Bool) → r ≡ Listed.Line n more → r ≡ listed_of d out → n ≤ 64
-listed_fits d out r n more e f = line_case (ltb (length out) 64) d n more (sym e ∙ f)
-
--- what the boundary answers for a listing
-pub listed_answer_lem : (r x : Listed) (l m : List ℕ) (k : ℕ) → (r ≡ x) × (l ≡ m) → k ≡ listed_answer r → (k ≡ listed_answer x) × (l ≡ m)
-listed_answer_lem r x l m k h e = (e ∙ ap listed_answer h.0, h.1)
+pub listed_fits : (d : Option Instr) (out : List ℕ) (l : Listing) → Ok l ≡ listed_of d out → l.bytes ≤ 64
+listed_fits d out l e = line_case (ltb (length out) 64) d l e

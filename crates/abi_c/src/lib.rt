@@ -1,4 +1,5 @@
 // What C links of abi: its functions of captures and S-records, under the names that include/ppe42.h declares.
+// Those of captures stand twice, since the C interface has the core in a function's name.
 #![tactic(auto)]
 
 ghost use Rattle.std.specs.Prelude.{◌≡◌};
@@ -8,12 +9,16 @@ ghost use Rattle.abi.specs.Records.{srec_read_answer, srec_write_answer};
 ghost use Rattle.srecord.specs.File.{memory_of};
 ghost use Rattle.srecord.specs.Write.{out_of};
 
+use abi::answer::answer;
+use abi::records::rejected;
+use insn::profile::Profile;
+
 // The refusal that reading a capture gives, or the length of its memory.
 #[unsafe(no_mangle)]
 pub extern "C" fn ppe42_capture_check(file: &[u8]) -> u64
     ensures { result ≡ check_answer Profile.Ppe42 file.now }
 {
-    abi::ppe42_capture_check(file)
+    answer(abi::captures::check(Profile::Ppe42, file))
 }
 
 // A capture written into the first M + 156 bytes of the output.
@@ -21,7 +26,7 @@ pub extern "C" fn ppe42_capture_check(file: &[u8]) -> u64
 pub extern "C" fn ppe42_capture_write(state: &[u8], memory: &[u8], out: &mut [u8]) -> u64
     ensures { (result ≡ write_answer Profile.Ppe42 state.now memory.now out.old) × (out.new ≡ write_out Profile.Ppe42 state.now memory.now out.old) }
 {
-    abi::ppe42_capture_write(state, memory, out)
+    answer(abi::captures::write(Profile::Ppe42, state, memory, out))
 }
 
 // The same of a 42X.
@@ -29,14 +34,14 @@ pub extern "C" fn ppe42_capture_write(state: &[u8], memory: &[u8], out: &mut [u8
 pub extern "C" fn ppe42x_capture_check(file: &[u8]) -> u64
     ensures { result ≡ check_answer Profile.Ppe42x file.now }
 {
-    abi::ppe42x_capture_check(file)
+    answer(abi::captures::check(Profile::Ppe42x, file))
 }
 
 #[unsafe(no_mangle)]
 pub extern "C" fn ppe42x_capture_write(state: &[u8], memory: &[u8], out: &mut [u8]) -> u64
     ensures { (result ≡ write_answer Profile.Ppe42x state.now memory.now out.old) × (out.new ≡ write_out Profile.Ppe42x state.now memory.now out.old) }
 {
-    abi::ppe42x_capture_write(state, memory, out)
+    answer(abi::captures::write(Profile::Ppe42x, state, memory, out))
 }
 
 // A file of S-records read into memory: the refusal, and the line that it is given for.
@@ -44,7 +49,7 @@ pub extern "C" fn ppe42x_capture_write(state: &[u8], memory: &[u8], out: &mut [u
 pub extern "C" fn ppe42_srec_read(memory: &mut [u8], file: &[u8]) -> u64
     ensures { (result ≡ srec_read_answer memory.old file.now) × (memory.new ≡ memory_of memory.old file.now) }
 {
-    abi::ppe42_srec_read(memory, file)
+    rejected(srecord::read::read(memory, file))
 }
 
 // Memory written as S-records into the first bytes of the output.
@@ -52,5 +57,5 @@ pub extern "C" fn ppe42_srec_read(memory: &mut [u8], file: &[u8]) -> u64
 pub extern "C" fn ppe42_srec_write(memory: &[u8], out: &mut [u8]) -> u64
     ensures { (result ≡ srec_write_answer memory.now out.old) × (out.new ≡ out_of memory.now out.old) }
 {
-    abi::ppe42_srec_write(memory, out)
+    answer(abi::records::write(memory, out))
 }

@@ -8,37 +8,36 @@ use mathlib.Core.Logic.{⊎_elim}
 use mathlib.Core.List.{List, [], ◌∷◌, ◌++◌, append-nil}
 use lib.ListN.{length, take, drop, length-append, take-append-drop}
 use lib.Seq.{take_at, length-take-le, take-append-le}
+use Rattle.syntax.specs.declared.field.Misfit.{Misfit}
+use Rattle.std.specs.Prelude.{Some, Ok, Err}
 use Rattle.expr.proofs.Cases.{split_lt, clash}
 use Rattle.expr.proofs.Sound.{Cut}
 use Rattle.insn.specs.Valid.{valid_of}
 use Rattle.insn.specs.Profile.{valid_on}
-use Rattle.insn.specs.Write.{word_of, written_if}
+use Rattle.insn.specs.Write.{word_of}
 use Rattle.insn.specs.Read.{decode_on}
 use Rattle.insn.specs.declared.profile.Profile.{Profile}
 use Rattle.insn.specs.declared.instr.Instr.{Instr}
-use Rattle.insn.specs.declared.instr.Decoded.{Decoded}
 use Rattle.insn.proofs.Round.{written_read_on}
 use Rattle.syntax.specs.Syntax.{Item, shape_of, written, plain, spelled_on}
 use Rattle.syntax.specs.Line.{Part, Line, texts, Begins, Has, Opens}
-use Rattle.syntax.specs.Worth.{none, at, fields_from, first_off, codes, all_codes}
-use Rattle.asm.specs.Answer.{Spells, fields_of, Stops, Answer, accepted, stopped as answer_stopped, outside, invalid}
+use Rattle.syntax.specs.Worth.{Field, none, at, fields_from, first_off, codes, all_codes}
+use Rattle.asm.specs.Answer.{Assembled, stopped_at, outside_at, Spells, fields_of, Stops, Answer, accepted, stopped as answer_stopped, outside, invalid}
 use Rattle.syntax.specs.LineOf.{line_of}
 use Rattle.syntax.specs.Take.{all, stopped, take_line, well_made}
 use Rattle.syntax.specs.Rows.{samples, sample_of, row_of}
-use Rattle.syntax.specs.Inside.{pattern_at, operand_count, matches, no_operands, gathered, WithRows}
-use Rattle.asm.specs.Inside.{checked_of, codes_in, filled, refused_with, assembled_of, settled_of, Placed}
-use Rattle.syntax.specs.declared.field.Field.{Field}
-use Rattle.syntax.specs.declared.line.Operands.{Operands}
-use Rattle.syntax.specs.declared.table.Job.{Job}
-use Rattle.syntax.specs.declared.table.Done.{Done}
-use Rattle.asm.specs.declared.assemble.Check.{Check}
-use Rattle.asm.specs.declared.assemble.Assembled.{Assembled}
+use Rattle.syntax.specs.Inside.{Operands, ReadIn, pattern_at, operand_count, matches, no_operands, gathered}
+use Rattle.std.specs.Option.{ok_or}
+use Rattle.std.specs.Bool.{then_some}
+use Rattle.syntax.specs.declared.table.Found.{Found as Matched}
+use Rattle.asm.specs.declared.assemble.Refused.{Refused}
+use Rattle.asm.specs.Inside.{Check, checked_of, codes_in, filled, settled_of, Placed}
 use Rattle.syntax.proofs.Lines.{LineRead, Parsed, line_read, line_complete, line_stuck, line_unique, sooner, some_line}
-use Rattle.syntax.proofs.Rows.{Right, right_at, Stopped, Reached, Ran, ran, Listed, found, bad_same, not_printed}
+use Rattle.syntax.proofs.Rows.{no_place, here as row_here, Right, right_at, Stopped, Reached, Ran, ran, Listed, found, bad_same}
 use Rattle.syntax.proofs.Spelled.{spelled_42x, plain_spelled, spelled_valid, on_valid}
 use Rattle.syntax.proofs.Samples.{sample_at_lem}
 use Rattle.asm.proofs.Filled.{push_all, fill_back, fill_shape, fill_plain, fill_codes, spelt_same}
-use Rattle.asm.proofs.Fields.{gather_push, fields_count, folded, check_fold, fine_off, fine_unfit, Contents, fine_fine, codes_fine, codes_none, codes_same, bounded_fields}
+use Rattle.asm.proofs.Fields.{check_unfit, check_fine, gather_push, fields_count, folded, check_fold, fine_off, fine_unfit, Contents, fine_fine, codes_fine, codes_none, codes_same, bounded_fields}
 use Rattle.syntax.proofs.Groups.{some, sample_at, sample_spelled, one_row, InRow, in_row, no_empty, shape_made}
 use Rattle.asm.proofs.Back.{line_back, line_length}
 
@@ -59,7 +58,7 @@ pub record Found (core : Profile) (c : ℕ) (s : List ℕ) (w : ℕ) (o : Operan
   pub text : texts parts ≡ c ∷ s
   pub operands : o ≡ push_all no_operands (fields_from 0 (shape_of (sample_at core c row)) parts)
 
-pub found_row : (core : Profile) (c : ℕ) (s : List ℕ) (w : ℕ) (o : Operands) → WithRows (samples core c) Job.Read (c ∷ s) [] [] (Done.Row w o) → Found core c s w o
+pub found_row : (core : Profile) (c : ℕ) (s : List ℕ) (w : ℕ) (o : Operands) → ReadIn (samples core c) (c ∷ s) (row_here w o) → Found core c s w o
 found_row core c s w o g =
     let f : Listed g.rows (length (samples core c)) (c ∷ s) w o = rw zero-add at (found (length (samples core c)) 0 0 g.rows (c ∷ s) w o (sym g.done)) in
     let r : Right g.rows f.row (sample_at core c f.row) = right_at (samples core c) g.rows f.row some g.right f.listed in
@@ -104,16 +103,16 @@ same_fields core c s w o f i p h =
     let q = only_row core c s f.row f.parts f.listed f.made f.line f.text i p.parts h p.line p.text in
     (q.sample, rw (← q.shape, ← q.reading) p.fields)
 
-settled : (core : Profile) (c : ℕ) (s : List ℕ) (w : ℕ) (o : Operands) (f : Found core c s w o) → length (c ∷ s) ≤ 256 → (k : Check) → folded Check.Fine (fields_from 0 (shape_of (sample_at core c f.row)) f.parts) ≡ k → Answer core (c ∷ s) (settled_of core k (Decoded.Insn (sample_at core c f.row)) o)
-settled core c s w o f l (Check.Off k) e = outside k l (has_found core c s w o f) (fine_off (fields_from 0 (shape_of (sample_at core c f.row)) f.parts) k e)
-settled core c s w o f l Check.Unfit e =
+settled : (core : Profile) (c : ℕ) (s : List ℕ) (w : ℕ) (o : Operands) (f : Found core c s w o) → length (c ∷ s) ≤ 256 → (k : Check) → folded check_fine (fields_from 0 (shape_of (sample_at core c f.row)) f.parts) ≡ k → Answer core (c ∷ s) (settled_of core k (Some (sample_at core c f.row)) o)
+settled core c s w o f l (Err (Misfit.Off k)) e = outside k.column l (has_found core c s w o f) (fine_off (fields_from 0 (shape_of (sample_at core c f.row)) f.parts) k.column e)
+settled core c s w o f l (Err Misfit.Unfit) e =
     invalid l (has_found core c s w o f) (fine_unfit (fields_from 0 (shape_of (sample_at core c f.row)) f.parts) e)
     (λ i p v.
     let q = same_fields core c s w o f i p (plain_spelled core i p.rest v) in
-    let z : Check.Fine ≡ Check.Unfit = sym (codes_fine (codes (written i))) ∙ (ap (folded Check.Fine) (sym q.1) ∙ e) in
+    let z : check_fine ≡ check_unfit = sym (codes_fine (codes (written i))) ∙ (ap (folded check_fine) (sym q.1) ∙ e) in
     let y : ◌≡◌ {A = ℕ} 0 1 = cc in
     omega arith)
-settled core c s w o f l Check.Fine e =
+settled core c s w o f l (Ok u) e =
     let fs : List Field = fields_from 0 (shape_of (sample_at core c f.row)) f.parts in
     let a : Contents fs = fine_fine fs e in
     let g : o ≡ push_all no_operands (all_codes a.numbers) = f.operands ∙ ap (push_all no_operands) a.are in
@@ -130,20 +129,20 @@ settled core c s w o f l Check.Fine e =
     rw m v)
     (codes_none a.numbers)
   where
-    encoded : (b : Bool) → valid_on core (filled (sample_at core c f.row) (codes_in o)) ≡ b → Spells (c ∷ s) (filled (sample_at core c f.row) (codes_in o)) → ((i : Instr) → Spells (c ∷ s) i → valid_on core i ≡ true → valid_on core (filled (sample_at core c f.row) (codes_in o)) ≡ true) → first_off (all_codes (fine_fine (fields_from 0 (shape_of (sample_at core c f.row)) f.parts) e).numbers) ≡ none → Answer core (c ∷ s) (assembled_of (written_if (valid_on core (filled (sample_at core c f.row) (codes_in o))) (word_of (filled (sample_at core c f.row) (codes_in o)))))
+    encoded : (b : Bool) → valid_on core (filled (sample_at core c f.row) (codes_in o)) ≡ b → Spells (c ∷ s) (filled (sample_at core c f.row) (codes_in o)) → ((i : Instr) → Spells (c ∷ s) i → valid_on core i ≡ true → valid_on core (filled (sample_at core c f.row) (codes_in o)) ≡ true) → first_off (all_codes (fine_fine (fields_from 0 (shape_of (sample_at core c f.row)) f.parts) e).numbers) ≡ none → Answer core (c ∷ s) (ok_or (then_some (valid_on core (filled (sample_at core c f.row) (codes_in o))) (word_of (filled (sample_at core c f.row) (codes_in o)))) Refused.Operands)
     encoded true v sp g n = rw v (accepted (filled (sample_at core c f.row) (codes_in o)) l sp v)
     encoded false v sp g n =
         rw v
         (invalid l (has_found core c s w o f) (ap first_off (fine_fine (fields_from 0 (shape_of (sample_at core c f.row)) f.parts) e).are ∙ n)
         (λ i p u. clash (sym (sym (g i p u) ∙ v))))
 
-pub row_answer : (core : Profile) (c : ℕ) (s : List ℕ) (w : ℕ) (o : Operands) (r : Assembled) → WithRows (samples core c) Job.Read (c ∷ s) [] [] (Done.Row w o) → length (c ∷ s) ≤ 256 → r ≡ settled_of core (checked_of o) (decode_on core w) o → Answer core (c ∷ s) r
+pub row_answer : (core : Profile) (c : ℕ) (s : List ℕ) (w : ℕ) (o : Operands) (r : Assembled) → ReadIn (samples core c) (c ∷ s) (row_here w o) → length (c ∷ s) ≤ 256 → r ≡ settled_of core (checked_of o) (decode_on core w) o → Answer core (c ∷ s) r
 row_answer core c s w o r g l e =
     let f : Found core c s w o = found_row core c s w o g in
     let fs : List Field = fields_from 0 (shape_of (sample_at core c f.row)) f.parts in
-    let k : checked_of o ≡ folded Check.Fine fs = ap checked_of f.operands ∙ check_fold fs (omega (arith, fields_count (shape_of (sample_at core c f.row)) f.parts 0, f.few)) in
-    let d : decode_on core w ≡ Decoded.Insn (sample_at core c f.row) = ap (decode_on core) f.word ∙ written_read_on core (sample_at core c f.row) f.valid in
-    rw (e, k, d) (settled core c s w o f l (folded Check.Fine fs) refl)
+    let k : checked_of o ≡ folded check_fine fs = ap checked_of f.operands ∙ check_fold fs (omega (arith, fields_count (shape_of (sample_at core c f.row)) f.parts 0, f.few)) in
+    let d : decode_on core w ≡ Some (sample_at core c f.row) = ap (decode_on core) f.word ∙ written_read_on core (sample_at core c f.row) f.valid in
+    rw (e, k, d) (settled core c s w o f l (folded check_fine fs) refl)
 
 -- ---- a line that no row has
 
@@ -178,7 +177,7 @@ row_none core c s t k r a n l ps b e =
 taken_first : (c : ℕ) (s : List ℕ) (k : ℕ) → take (k + 1) (c ∷ s) ≡ c ∷ take k s
 taken_first c s k = let q : k + 1 ≡ suc k = omega arith in rw q
 
-pub bad_ends : (core : Profile) (c : ℕ) (s : List ℕ) (k : ℕ) → WithRows (samples core c) Job.Read (c ∷ s) [] [] (Done.Bad k) → Ends core (c ∷ s) k
+pub bad_ends : (core : Profile) (c : ℕ) (s : List ℕ) (k : ℕ) → ReadIn (samples core c) (c ∷ s) (no_place k) → Ends core (c ∷ s) k
 bad_ends core c s k g =
     let a : Ran g.rows (length (samples core c)) 0 0 (c ∷ s) k = ran (length (samples core c)) 0 0 g.rows (c ∷ s) k (sym g.done) in
     let b : (k ≤ length (c ∷ s)) × Opens core (take k (c ∷ s)) = ⊎_elim (λ z. (omega arith, rw z (some_opens core))) (λ z. begun z) a.top in
@@ -239,25 +238,20 @@ long_whole core s l h =
 
 -- ---- what the rows of the first byte say
 
-pub placed_bad : (core : Profile) (s : List ℕ) (k : ℕ) → Placed core s (Done.Bad k) → Ends core s k
+pub placed_bad : (core : Profile) (s : List ℕ) (k : ℕ) → Placed core s (no_place k) → Ends core s k
 unfolding Placed
 placed_bad core [] k e = rw (bad_same k 0 e) (empty_ends core)
 placed_bad core (c ∷ s) k g = bad_ends core c s k g
 
-pub placed_has : (core : Profile) (s : List ℕ) (w : ℕ) (o : Operands) → Placed core s (Done.Row w o) → Has core s
+pub placed_has : (core : Profile) (s : List ℕ) (w : ℕ) (o : Operands) → Placed core s (row_here w o) → Has core s
 unfolding Placed
 placed_has core [] w o e = let z : ◌≡◌ {A = ℕ} 0 1 = cc in let y : ⊥ = omega arith in absurd y
 placed_has core (c ∷ s) w o g = has_found core c s w o (found_row core c s w o g)
 
-pub placed_answer : (core : Profile) (s : List ℕ) (w : ℕ) (o : Operands) (r : Assembled) → Placed core s (Done.Row w o) → length s ≤ 256 → r ≡ settled_of core (checked_of o) (decode_on core w) o → Answer core s r
+pub placed_answer : (core : Profile) (s : List ℕ) (f : Matched) (r : Assembled) → Placed core s (Ok f) → length s ≤ 256 → r ≡ settled_of core (checked_of f.operands) (decode_on core f.word) f.operands → Answer core s r
 unfolding Placed
-placed_answer core [] w o r e l q = let z : ◌≡◌ {A = ℕ} 0 1 = cc in let y : ⊥ = omega arith in absurd y
-placed_answer core (c ∷ s) w o r g l q = row_answer core c s w o r g l q
-
-pub placed_printed : {C : Type 0} (core : Profile) (s : List ℕ) (m : ℕ) → Placed core s (Done.Printed m) → C
-unfolding Placed
-placed_printed core [] m e = let z : ◌≡◌ {A = ℕ} 0 1 = cc in let y : ⊥ = omega arith in absurd y
-placed_printed core (c ∷ s) m g = not_printed (length (samples core c)) 0 0 g.rows (c ∷ s) m (sym g.done)
+placed_answer core [] f r e l q = let z : ◌≡◌ {A = ℕ} 0 1 = cc in let y : ⊥ = omega arith in absurd y
+placed_answer core (c ∷ s) f r g l q = row_answer core c s f.word f.operands r g l q
 
 -- ---- theorems
 
@@ -307,17 +301,17 @@ at_same j k e = cc
 
 -- every line has one answer of a core
 pub answer_once : (core : Profile) (s : List ℕ) (q r : Assembled) → Answer core s q → Answer core s r → q ≡ r
-answer_once core s q r (accepted i l p v) (accepted j m x w) = ap (λ (z : Instr). record { refusal = 0; column = 0; word = word_of z }) (spelt_once s i j p x (on_valid core i v) (on_valid core j w))
+answer_once core s q r (accepted i l p v) (accepted j m x w) = ap (λ (z : Instr). Ok (word_of z)) (spelt_once s i j p x (on_valid core i v) (on_valid core j w))
 answer_once core s q r (accepted i l p v) (answer_stopped k x) = let z : ⊥ = x.none l (has p (plain_spelled core i p.rest v)) in absurd z
 answer_once core s q r (accepted i l p v) (outside k m h e) = at_none k (sym e ∙ spelt_none core s i p (plain_spelled core i p.rest v) h)
 answer_once core s q r (accepted i l p v) (invalid m h e n) = let z : ⊥ = n i p v in absurd z
 answer_once core s q r (answer_stopped j x) (accepted i l p v) = let z : ⊥ = x.none l (has p (plain_spelled core i p.rest v)) in absurd z
-answer_once core s q r (answer_stopped j x) (answer_stopped k y) = ap (refused_with 11) (column_once core s j k x y)
+answer_once core s q r (answer_stopped j x) (answer_stopped k y) = ap stopped_at (column_once core s j k x y)
 answer_once core s q r (answer_stopped j x) (outside k m h e) = let z : ⊥ = x.none m h in absurd z
 answer_once core s q r (answer_stopped j x) (invalid m h e n) = let z : ⊥ = x.none m h in absurd z
 answer_once core s q r (outside j l h e) (accepted i m p v) = at_none j (sym e ∙ spelt_none core s i p (plain_spelled core i p.rest v) h)
 answer_once core s q r (outside j l h e) (answer_stopped k x) = let z : ⊥ = x.none l h in absurd z
-answer_once core s q r (outside j l h e) (outside k m g d) = ap (refused_with 12) (at_same j k (sym e ∙ (ap first_off (fields_once core s h g) ∙ d)))
+answer_once core s q r (outside j l h e) (outside k m g d) = ap outside_at (at_same j k (sym e ∙ (ap first_off (fields_once core s h g) ∙ d)))
 answer_once core s q r (outside j l h e) (invalid m g d n) = at_none j (sym e ∙ (ap first_off (fields_once core s h g) ∙ d))
 answer_once core s q r (invalid l h e n) (accepted i m p v) = let z : ⊥ = n i p v in absurd z
 answer_once core s q r (invalid l h e n) (answer_stopped k x) = let z : ⊥ = x.none l h in absurd z
@@ -325,12 +319,12 @@ answer_once core s q r (invalid l h e n) (outside k m g d) = at_none k (sym d �
 answer_once core s q r (invalid l h e n) (invalid m g d u) = refl
 
 -- a line of up to 256 bytes that is a valid instruction's is answered with its word
-pub spelt_accepted : (core : Profile) (s : List ℕ) (i : Instr) (r : Assembled) → length s ≤ 256 → Spells s i → valid_on core i ≡ true → Answer core s r → r ≡ record { refusal = 0; column = 0; word = word_of i }
+pub spelt_accepted : (core : Profile) (s : List ℕ) (i : Instr) (r : Assembled) → length s ≤ 256 → Spells s i → valid_on core i ≡ true → Answer core s r → r ≡ Ok (word_of i)
 spelt_accepted core s i r l p v a = answer_once core s r _ a (accepted i l p v)
 
 -- the line that is written for an instruction is that instruction's
 pub line_spells : (i : Instr) → valid_of i ≡ true → plain i ≡ true → Spells (line_of i) i
 line_spells i v p = let r = line_back i v in record { parts = r.parts; line = r.line; text = r.text; fields = r.fields; rest = p }
 
-pub line_assembles : (core : Profile) (i : Instr) (r : Assembled) → valid_on core i ≡ true → plain i ≡ true → Answer core (line_of i) r → r ≡ record { refusal = 0; column = 0; word = word_of i }
+pub line_assembles : (core : Profile) (i : Instr) (r : Assembled) → valid_on core i ≡ true → plain i ≡ true → Answer core (line_of i) r → r ≡ Ok (word_of i)
 line_assembles core i r v p a = spelt_accepted core (line_of i) i r (omega (arith, line_length i)) (line_spells i (on_valid core i v) p) v a

@@ -5,25 +5,24 @@ use mathlib.Core.Path.{◌≡◌, refl, sym, ap, ◌∙◌}
 use mathlib.Core.Bool.{Bool, true, false, ◌&&◌}
 use mathlib.Core.List.{List, [], ◌∷◌, ◌++◌}
 use lib.Dec.{eqb, leb}
+use lib.IntN.{pos, negsuc, neg_ℤ}
 use lib.ListN.{length, get_or, length-append}
 use borrow.Author.Tests.{lt-ltb, le-ltb, le-leb, leb-true, eq-eqb, ne_eqb}
+use Rattle.std.specs.Prelude.{Ok}
 use Rattle.word.proofs.Truth.{and_left, and_right}
 use Rattle.insn.specs.Valid.{valid_of}
 use Rattle.insn.specs.declared.profile.Profile.{Profile}
 use Rattle.insn.specs.declared.instr.Instr.{Instr}
 use Rattle.expr.specs.Grammar.{Expr, Prod, Fac, pick, is_digit, all_digits, text_e, InE, in_only, in_one, in_num, in_minus}
-use Rattle.expr.specs.Evaluate.{negated, digit_of, digits_value, eval_e}
-use Rattle.expr.specs.declared.Value.{Value}
+use Rattle.expr.specs.Evaluate.{Value, negated, digit_of, digits_value, eval_e}
 use Rattle.expr.proofs.Cases.{split_lt, split_eq}
-use Rattle.expr.proofs.Signs.{neg_pos}
 use Rattle.syntax.specs.Syntax.{Range, signed, unsigned, target, frame, Item, reg, zreg, num, Piece, letter, gpr, gpr_or0, number, letters, commas, spelt, written, item_of, items_of, shape_of}
 use Rattle.syntax.specs.Text.{bytes}
 use Rattle.syntax.specs.Line.{Part, byte, register, zero as lone, value, text_of, texts, Fits, fits_lit, fits_reg, fits_zreg, fits_zero, fits_num, Line, line_end, line_more}
-use Rattle.syntax.specs.Worth.{signed_code, unsigned_code, target_code, frame_code, code_of, register_field, field_of, kept, fields_from, codes, all_codes}
+use Rattle.syntax.specs.Worth.{Field, signed_code, unsigned_code, target_code, frame_code, code_of, register_field, field_of, kept, fields_from, codes, all_codes}
 use Rattle.syntax.specs.LineOf.{decimal, signed_text, number_text, register_text, base_text, piece_text, piece_texts, line_of}
 use Rattle.syntax.specs.Rows.{samples, samples_a, samples_b, samples_c, samples_d, samples_e, samples_l, samples_m, samples_n, samples_o, samples_r, samples_s, samples_t, samples_w, samples_x, row_of}
 use Rattle.syntax.specs.Inside.{wide_item, wide}
-use Rattle.syntax.specs.declared.field.Field.{Field}
 use Rattle.syntax.proofs.Printing.{decimal_length, signed_length}
 use Rattle.syntax.proofs.Spelled.{spelled_42x}
 use Rattle.syntax.proofs.Samples.{sample_shape, sample_at_lem, row_in}
@@ -91,7 +90,11 @@ record Tree (t : List ℕ) (v : Value) : Type 0 where
   text : text_e tree ≡ t
   worth : (at : ℕ) → eval_e tree at ≡ v
 
-plus_tree : (n : ℕ) → n < 10 ^ 8 → Tree (decimal 8 n) (Value.Plus n)
+neg_pos : (p : ℕ) → (p ≡ 0 → ⊥) → neg_ℤ (pos p) ≡ negsuc (p - 1)
+neg_pos zero n = absurd (n refl)
+neg_pos (suc k) n = ap negsuc (omega arith)
+
+plus_tree : (n : ℕ) → n < 10 ^ 8 → Tree (decimal 8 n) (Ok (pos n))
 unfolding text_e eval_e
 plus_tree n h =
     let r = decimal_digits 7 n h in
@@ -102,7 +105,7 @@ plus_tree n h =
       worth = λ at. rw (← r.is, r.worth, lt-ltb n 0x8000_0000 (omega arith));
     }
 
-minus_tree : (n : ℕ) → n < 10 ^ 8 → 0 < n → Tree (45 ∷ decimal 8 n) (Value.Minus (n - 1))
+minus_tree : (n : ℕ) → n < 10 ^ 8 → 0 < n → Tree (45 ∷ decimal 8 n) (Ok (negsuc (n - 1)))
 unfolding text_e eval_e negated
 minus_tree n h l =
     let r = decimal_digits 7 n h in
@@ -118,9 +121,9 @@ record Operand (x : Item) (t : List ℕ) (n : ℕ) : Type 0 where
   part : Part
   fits : Fits x part
   text : text_of part ≡ t
-  field : (at : ℕ) → field_of x at part ≡ Field.Code n
+  field : (at : ℕ) → field_of x at part ≡ Ok n
 
-by_tree : (r : Range) (t : List ℕ) (v : Value) (n : ℕ) → Tree t v → code_of r v ≡ Field.Code n → Operand (num r) t n
+by_tree : (r : Range) (t : List ℕ) (v : Value) (n : ℕ) → Tree t v → code_of r v ≡ Ok n → Operand (num r) t n
 unfolding text_of
 by_tree r t v n u e = record { part = value u.tree; fits = fits_num u.within; text = u.text; field = λ at. ap (code_of r) (u.worth at) ∙ e }
 
@@ -132,13 +135,13 @@ text_minus : (unit h n : ℕ) → h ≤ n → signed_text unit h n ≡ 45 ∷ de
 unfolding signed_text
 text_minus unit h n l = rw (le-ltb n h l)
 
-code_plus : (h n m : ℕ) → n < h → m ≡ n → signed_code h (Value.Plus m) ≡ Field.Code n
+code_plus : (h n m : ℕ) → n < h → m ≡ n → signed_code h (Ok (pos m)) ≡ Ok n
 unfolding signed_code
 code_plus h n m l e = rw (e, lt-ltb n h l)
 
-code_minus : (h n m : ℕ) → h ≤ n → n < 2 * h → m ≡ 2 * h - n - 1 → signed_code h (Value.Minus m) ≡ Field.Code n
+code_minus : (h n m : ℕ) → h ≤ n → n < 2 * h → m ≡ 2 * h - n - 1 → signed_code h (Ok (negsuc m)) ≡ Ok n
 unfolding signed_code
-code_minus h n m l k e = rw (lt-ltb m h (omega arith)) (ap Field.Code (omega arith))
+code_minus h n m l k e = rw (lt-ltb m h (omega arith)) (ap (λ (x : ℕ). Ok x) (omega arith))
 
 number_read : (r : Range) (n : ℕ) → n < size_of r → size_of r ≤ 2 ^ 24 → Operand (num r) (number_text r n) n
 unfolding unsigned_code target_code frame_code

@@ -1,19 +1,18 @@
 -- An instruction with the operands of a line: filled with its own it is itself, filled with others it has those and its shape.
-use Prim.Native.Nat.{ℕ, zero, suc, ◌*◌, ◌%◌, ◌^◌, ◌<◌, ◌≤◌}
+use Prim.Native.Nat.{ℕ, ◌*◌, ◌%◌, ◌^◌, ◌<◌, ◌≤◌}
 use native.Mathlib.Omega.{arith}
-use native.Mathlib.Decide.{dec_le}
-use native.Mathlib.Nat.{lt_of_not-le, mod-eq_of_lt}
+use native.Mathlib.Nat.{mod-eq_of_lt}
 use mathlib.Core.Path.{◌≡◌, refl, sym, ap, ◌∙◌}
-use mathlib.Core.Bool.{Bool, true, false, ◌||◌}
+use mathlib.Core.Bool.{true, false, ◌||◌}
 use mathlib.Core.Logic.{⊎_elim}
 use mathlib.Core.List.{List, [], ◌∷◌, ◌++◌}
-use lib.Dec.{eqb, ltb, lit≤}
-use Rattle.expr.proofs.Cases.{or_true}
-use borrow.Author.Tests.{ltb-true, eqb-true, ne_eqb}
-use Rattle.word.specs.Bits.{digit}
+use lib.Dec.{eqb, lit≤}
+use Rattle.std.proofs.lemmas.Bool.{or_cases}
+use borrow.Author.Tests.{ltb-true, eqb-true}
 use Rattle.word.proofs.Truth.{never, and_left, and_right}
-use Rattle.insn.specs.Valid.{valid_of, is_spr, is_to, trap_form, mark_form}
-use Rattle.insn.proofs.Round.{reg_lt}
+use Rattle.word.proofs.ByBits.{digit_of_lem}
+use Rattle.insn.specs.Valid.{valid_of, trap_form, mark_form}
+use Rattle.insn.proofs.Round.{reg_lt, spr_lt, to_lt}
 use Rattle.insn.specs.declared.instr.Instr.{Instr}
 use Rattle.insn.specs.declared.instr.Arithmetic.{Arithmetic}
 use Rattle.insn.specs.declared.instr.Logical.{Logical}
@@ -27,13 +26,10 @@ use Rattle.insn.specs.declared.instr.SprOp.{SprOp}
 use Rattle.insn.specs.declared.instr.Sign.{Sign}
 use Rattle.syntax.specs.Syntax.{Range, signed, unsigned, target, frame, Item, lit, reg, zreg, num, Piece, letter, gpr, gpr_or0, number, letters, spelt, written, plain, items_of, shape_of}
 use Rattle.syntax.specs.Text.{bytes}
-use Rattle.syntax.specs.Worth.{codes, all_codes}
+use Rattle.syntax.specs.Worth.{Field, codes, all_codes}
 use Rattle.syntax.specs.Rows.{sample_of}
-use Rattle.syntax.specs.Inside.{no_operands, pushed}
-use Rattle.asm.specs.Inside.{codes_in, filled}
-use Rattle.syntax.specs.declared.field.Field.{Field}
-use Rattle.syntax.specs.declared.line.Operands.{Operands}
-use Rattle.asm.specs.declared.fill.Codes.{Codes}
+use Rattle.syntax.specs.Inside.{Operands, no_operands, pushed}
+use Rattle.asm.specs.Inside.{Codes, codes_in, filled}
 use Rattle.syntax.proofs.Samples.{operands, spelt_is, sample_shape}
 
 unfoldable pub push_all : Operands → List Field → Operands
@@ -75,20 +71,6 @@ codes_after (c ∷ cs) ps = codes_after cs ps
 codes_are : (name : List ℕ) (o : List Piece) (os : List (List Piece)) → codes (spelt name (o ∷ os)) ≡ codes (operands o os)
 codes_are name o os = rw (spelt_is name o os) (codes_after name _)
 
--- a test that fails from m on and passes at n shows that n is below m
-test_lt : (t : ℕ → Bool) (m : ℕ) → ((n : ℕ) → m ≤ n → t n ≡ false) → (n : ℕ) → t n ≡ true → n < m
-test_lt t m far n e = elim (dec_le m n) [ yes h ↦ never (sym e ∙ far n h) | no h ↦ lt_of_not-le h ]
-
-far : (m n k : ℕ) → m ≤ n → ltb k m ≡ true → eqb n k ≡ false
-far m n k h l = ne_eqb n k (omega (arith, ltb-true))
-
-spr_lt : (n : ℕ) → is_spr n ≡ true → n < 1024
-unfolding is_spr
-spr_lt = test_lt is_spr 1024 (λ n h. simp (far 1024))
-
-to_lt : (n : ℕ) → is_to n ≡ true → n < 32
-to_lt = test_lt is_to 32 (λ n h. simp (far 32))
-
 -- what is within a field is not cut
 eight_4 : (n : ℕ) → n < 4 → n % 0x100 ≡ n
 eight_4 n h = mod-eq_of_lt (omega arith)
@@ -114,15 +96,10 @@ sixteen_14 n h = mod-eq_of_lt (omega arith)
 sixteen_16 : (n : ℕ) → n < 0x1_0000 → n % 0x1_0000 ≡ n
 sixteen_16 n h = mod-eq_of_lt (omega arith)
 
-bit_is : (n : ℕ) → n < 2 → digit (eqb n 1) ≡ n
-bit_is zero h = refl
-bit_is (suc zero) h = refl
-bit_is (suc (suc n)) h = let z : ⊥ = omega arith in absurd z
-
 zero_is : (n : ℕ) → eqb n 0 ≡ true → 0 ≡ n
 zero_is n h = sym (eqb-true n 0 h)
 
-ruleset uncut = (eight_4, eight_32, eight_64, sixteen_32, sixteen_1024, sixteen_13, sixteen_14, sixteen_16, bit_is)
+ruleset uncut = (eight_4, eight_32, eight_64, sixteen_32, sixteen_1024, sixteen_13, sixteen_14, sixteen_16, digit_of_lem)
 
 ruleset orders = (reg_lt, spr_lt, to_lt, ltb-true, and_left, and_right)
 
@@ -132,7 +109,7 @@ ruleset back = (uncut, orders, zero_is)
 
 -- with TG the fields of tw hold anything that they have room for
 trap_lt : (to ra rb : ℕ) → (mark_form to ra rb true || trap_form to ra rb) ≡ true → (to < 32) × (ra < 32) × (rb < 32)
-trap_lt to ra rb v = ⊎_elim (λ h. search orders) (λ h. search orders) (or_true (mark_form to ra rb true) (trap_form to ra rb) v)
+trap_lt to ra rb v = ⊎_elim (λ h. search orders) (λ h. search orders) (or_cases (mark_form to ra rb true) (trap_form to ra rb) v)
 
 -- a valid instruction's operands are within their fields, and filled with them its sample is that instruction
 good : (i : Instr) → valid_of i ≡ true → Fit (written i) × (plain i ≡ true → filled_with (sample_of i) (codes (written i)) ≡ i)

@@ -16,9 +16,8 @@ use Rattle.insn.specs.declared.instr.SprOp.{SprOp}
 use Rattle.insn.specs.declared.instr.Sign.{Sign}
 use Rattle.syntax.specs.Syntax.{Piece, letter, SI, R, D, letters, commas, spelt, arith_imm_base, compare_imm, items_of, shape_of}
 use Rattle.syntax.specs.LineOf.{piece_texts, line_of}
-use Rattle.asm.specs.Queue.{queued, queue_of}
-use Rattle.syntax.specs.Inside.{printed}
-use Rattle.syntax.specs.declared.queue.Queue.{Queue}
+use Rattle.asm.specs.Operands.{queued, queue_of}
+use Rattle.syntax.specs.Inside.{Queue, printed}
 
 -- the mnemonic is printed as it stands, and the rest with the operands in the order of the line
 abbrev Printed : List Piece → Queue → Type 0

@@ -1,14 +1,40 @@
 -- What a core answers for a line, by its grammar, the values and its instructions alone (C-12: 11, then 12, then 6).
-use Rattle.std.specs.Prelude.{ℕ, ◌+◌, ◌≤◌, ◌<◌, ◌≡◌, true, List, length, take}
+use Rattle.std.specs.Prelude.{ℕ, Result, Ok, Err, ◌+◌, ◌≤◌, ◌<◌, ◌≡◌, true, List, length, take}
 use Rattle.insn.specs.Profile.{valid_on}
 use Rattle.insn.specs.Write.{word_of}
 use Rattle.insn.specs.declared.profile.Profile.{Profile}
 use Rattle.insn.specs.declared.instr.Instr.{Instr}
 use Rattle.syntax.specs.Syntax.{written, plain, shape_of}
 use Rattle.syntax.specs.Line.{Part, Line, texts, Has, Opens}
-use Rattle.syntax.specs.Worth.{none, at, fields_from, first_off, codes, all_codes}
-use Rattle.syntax.specs.declared.field.Field.{Field}
-use Rattle.asm.specs.declared.assemble.Assembled.{Assembled}
+use Rattle.syntax.specs.Worth.{Field, none, at, fields_from, first_off, codes, all_codes}
+use Rattle.asm.specs.declared.assemble.Refused.{Refused}
+
+-- a word, or why there is none
+abbrev pub Assembled : Type 0
+Assembled = Result ℕ Refused
+
+abbrev pub stopped_at : ℕ → Assembled
+stopped_at k = Err (Refused.Grammar (record { column = k }))
+
+abbrev pub outside_at : ℕ → Assembled
+outside_at k = Err (Refused.Value (record { column = k }))
+
+-- the numbers of an answer: its refusal, its column and its word
+abbrev pub refusal_of : Assembled → ℕ
+refusal_of (Ok w) = 0
+refusal_of (Err (Refused.Grammar k)) = 11
+refusal_of (Err (Refused.Value k)) = 12
+refusal_of (Err Refused.Operands) = 6
+
+abbrev pub column_of : Assembled → ℕ
+column_of (Ok w) = 0
+column_of (Err (Refused.Grammar k)) = k.column
+column_of (Err (Refused.Value k)) = k.column
+column_of (Err Refused.Operands) = 0
+
+abbrev pub word_in : Assembled → ℕ
+word_in (Ok w) = w
+word_in (Err e) = 0
 
 -- the line is the instruction's: of its shape, its operands what the instruction's fields hold, and the fields it does not write 0
 pub record Spells (s : List ℕ) (i : Instr) : Type 0 where
@@ -33,7 +59,7 @@ pub record Stops (p : Profile) (s : List ℕ) (k : ℕ) : Type 0 where
 
 -- the word of a valid instruction; 11 and a column; 12 and the start of the first value outside its range; 6
 pub data Answer (p : Profile) (s : List ℕ) : Assembled → Type 0 where
-  accepted : (i : Instr) → length s ≤ 256 → Spells s i → valid_on p i ≡ true → Answer p s (record { refusal = 0; column = 0; word = word_of i })
-  stopped : (k : ℕ) → Stops p s k → Answer p s (record { refusal = 11; column = k; word = 0 })
-  outside : (k : ℕ) → length s ≤ 256 → (h : Has p s) → first_off (fields_of h) ≡ at k → Answer p s (record { refusal = 12; column = k; word = 0 })
-  invalid : length s ≤ 256 → (h : Has p s) → first_off (fields_of h) ≡ none → ((i : Instr) → Spells s i → valid_on p i ≡ true → ⊥) → Answer p s (record { refusal = 6; column = 0; word = 0 })
+  accepted : (i : Instr) → length s ≤ 256 → Spells s i → valid_on p i ≡ true → Answer p s (Ok (word_of i))
+  stopped : (k : ℕ) → Stops p s k → Answer p s (stopped_at k)
+  outside : (k : ℕ) → length s ≤ 256 → (h : Has p s) → first_off (fields_of h) ≡ at k → Answer p s (outside_at k)
+  invalid : length s ≤ 256 → (h : Has p s) → first_off (fields_of h) ≡ none → ((i : Instr) → Spells s i → valid_on p i ≡ true → ⊥) → Answer p s (Err Refused.Operands)

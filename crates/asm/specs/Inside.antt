@@ -1,10 +1,8 @@
 -- What the private functions answer: the rows of a line's first byte, an instruction with other operands. For their
 -- contracts; Answer says what a line is answered.
-use Rattle.std.specs.Prelude.{ℕ, ◌%◌, ◌≡◌, List, [], ◌∷◌, eqb}
+use Rattle.std.specs.Prelude.{ℕ, Option, Some, None, Result, Ok, Err, ◌%◌, ◌≡◌, List, [], ◌∷◌, eqb}
 use Rattle.insn.specs.Write.{written_on}
 use Rattle.insn.specs.declared.profile.Profile.{Profile}
-use Rattle.insn.specs.declared.instr.Decoded.{Decoded}
-use Rattle.insn.specs.declared.instr.Written.{Written}
 use Rattle.insn.specs.declared.instr.Instr.{Instr}
 use Rattle.insn.specs.declared.instr.Arithmetic.{Arithmetic}
 use Rattle.insn.specs.declared.instr.Logical.{Logical}
@@ -15,40 +13,47 @@ use Rattle.insn.specs.declared.instr.Branch.{Branch}
 use Rattle.insn.specs.declared.instr.System.{System}
 use Rattle.insn.specs.declared.instr.SprOp.{SprOp}
 use Rattle.syntax.specs.Rows.{samples}
-use Rattle.syntax.specs.declared.field.Field.{Field}
-use Rattle.syntax.specs.declared.line.Operands.{Operands}
-use Rattle.asm.specs.declared.fill.Codes.{Codes}
-use Rattle.syntax.specs.declared.table.Job.{Job}
-use Rattle.syntax.specs.declared.table.Done.{Done}
-use Rattle.asm.specs.declared.assemble.Check.{Check}
-use Rattle.asm.specs.declared.assemble.Assembled.{Assembled}
-use Rattle.syntax.specs.Inside.{WithRows}
+use Rattle.std.specs.Option.{ok_or}
+use Rattle.syntax.specs.Worth.{Field}
+use Rattle.syntax.specs.Inside.{Operands, Place, ReadIn}
+use Rattle.syntax.specs.declared.field.Misfit.{Misfit}
+use Rattle.syntax.specs.declared.five.Five.{Five}
+use Rattle.asm.specs.declared.assemble.Refused.{Refused}
+use Rattle.asm.specs.Answer.{Assembled}
+
+abbrev pub Codes : Type 0
+Codes = Five ℕ
+
+-- what the operands come to
+abbrev pub Check : Type 0
+Check = Result (Unit {0}) Misfit
 
 -- the first byte of a line chooses the rows
-unfoldable pub Placed : Profile → List ℕ → Done → Type 0
-Placed p [] r = r ≡ Done.Bad 0
-Placed p (c ∷ s) r = WithRows (samples p c) Job.Read (c ∷ s) [] [] r
+unfoldable pub Placed : Profile → List ℕ → Place → Type 0
+Placed p [] r = r ≡ Err (record { column = 0 })
+Placed p (c ∷ s) r = ReadIn (samples p c) (c ∷ s) r
 
--- what the operands come to, left to right
+-- left to right
 abbrev pub after_of : Check → Field → Check
-after_of (Check.Off k) f = Check.Off k
-after_of Check.Unfit (Field.Off k) = Check.Off k
-after_of Check.Unfit Field.Unfit = Check.Unfit
-after_of Check.Unfit (Field.Code n) = Check.Unfit
-after_of Check.Fine (Field.Off k) = Check.Off k
-after_of Check.Fine Field.Unfit = Check.Unfit
-after_of Check.Fine (Field.Code n) = Check.Fine
+after_of (Err (Misfit.Off k)) f = Err (Misfit.Off k)
+after_of (Err Misfit.Unfit) (Err e) = Err e
+after_of (Err Misfit.Unfit) (Ok n) = Err Misfit.Unfit
+after_of (Ok u) (Err e) = Err e
+after_of (Ok u) (Ok n) = Ok u
 
 abbrev pub checked_of : Operands → Check
-checked_of o = after_of (after_of (after_of (after_of (after_of Check.Fine o.e) o.d) o.c) o.b) o.a
+checked_of o = after_of (after_of (after_of (after_of (after_of (Ok tt) o.e) o.d) o.c) o.b) o.a
 
 abbrev pub code_in : Field → ℕ
-code_in (Field.Code n) = n
-code_in Field.Unfit = 0
-code_in (Field.Off k) = 0
+code_in (Ok n) = n
+code_in (Err e) = 0
 
 abbrev pub codes_in : Operands → Codes
 codes_in o = record { a = code_in o.a; b = code_in o.b; c = code_in o.c; d = code_in o.d; e = code_in o.e }
+
+abbrev pub held_of : Check → Operands → Result Codes Misfit
+held_of (Err e) o = Err e
+held_of (Ok u) o = Ok (codes_in o)
 
 -- an instruction with other operands
 abbrev pub eight_of : ℕ → ℕ
@@ -118,17 +123,17 @@ filled (Instr.System x) o = Instr.System (filled_system x o)
 filled (Instr.Cache op hint ra rb) o = Instr.Cache op hint (eight_of o.b) (eight_of o.a)
 
 -- what is answered for a row's word and a line's operands
-abbrev pub refused_with : ℕ → ℕ → Assembled
-refused_with n k = record { refusal = n; column = k; word = 0 }
+abbrev pub refused_by : Misfit → Refused
+refused_by (Misfit.Off k) = Refused.Value k
+refused_by Misfit.Unfit = Refused.Operands
 
-abbrev pub assembled_of : Written → Assembled
-assembled_of w = record { refusal = w.refusal; column = 0; word = w.word }
+abbrev pub encoded_with : Profile → Option Instr → Codes → Assembled
+encoded_with p None o = Err Refused.Operands
+encoded_with p (Some i) o = ok_or (written_on p (filled i o)) Refused.Operands
 
-abbrev pub encoded_of : Profile → Decoded → Operands → Assembled
-encoded_of p Decoded.Illegal o = refused_with 6 0
-encoded_of p (Decoded.Insn i) o = assembled_of (written_on p (filled i (codes_in o)))
+abbrev pub encoded_of : Profile → Option Instr → Operands → Assembled
+encoded_of p d o = encoded_with p d (codes_in o)
 
-abbrev pub settled_of : Profile → Check → Decoded → Operands → Assembled
-settled_of p (Check.Off k) d o = refused_with 12 k
-settled_of p Check.Unfit d o = refused_with 6 0
-settled_of p Check.Fine d o = encoded_of p d o
+abbrev pub settled_of : Profile → Check → Option Instr → Operands → Assembled
+settled_of p (Err e) d o = Err (refused_by e)
+settled_of p (Ok u) d o = encoded_of p d o

@@ -1,4 +1,4 @@
 pub mod Answer
-pub mod Queue
+pub mod Operands
 pub mod Inside
 pub mod Listing

@@ -1,139 +1,124 @@
-// A line as a core's word, or refused: 11 and the column where no line of its grammar goes on; 12 and the start of the first value
-// outside -2^31 to 2^31 - 1; 6 for operands.
+// A line as a core's word, or why it is refused.
 ghost use Rattle.std.specs.Prelude.{◌≡◌, length, ◌≤◌, ◌<◌};
 ghost use Rattle.insn.specs.Read.{decode_on};
+ghost use Rattle.syntax.specs.declared.field.Misfit.{Misfit};
 ghost use Rattle.asm.specs.Answer.{Answer};
-ghost use Rattle.asm.specs.Inside.{refused_with, after_of, checked_of, encoded_of, settled_of, Placed};
+ghost use Rattle.asm.specs.Inside.{refused_by, after_of, checked_of, held_of, encoded_with, settled_of, Placed};
+ghost use Rattle.asm.specs.declared.assemble.Refused.{Refused};
 
-use crate::fill::{codes_of, fill};
-use insn::instr::Decoded;
+use crate::fill::{Codes, fill};
+use expr::{Off, Stuck};
 use insn::profile::Profile;
-use syntax::field::Field;
+use syntax::field::{Field, Misfit};
+use syntax::five::Five;
 use syntax::line::Operands;
-use syntax::table::{Done, Job, at_letter};
+use syntax::table::{Found, find};
 
-#[derive(Clone, Copy)]
-pub struct Assembled {
-    pub refusal: u8,
-    pub column: usize,
-    pub word: u32,
+// No line of the core's grammar goes on at a column; the first value outside -2^31 to 2^31 - 1 starts there; or no valid
+// instruction has these operands.
+#[derive(Clone, Copy, PartialEq, Eq, Debug)]
+pub enum Refused {
+    Grammar(Stuck),
+    Value(Off),
+    Operands,
 }
 
-// What the operands seen so far come to: an operand that does not fit counts only if no value is off.
-#[derive(Clone, Copy)]
-pub enum Check {
-    Fine,
-    Unfit,
-    Off(usize),
-}
+impl From<Stuck> for Refused {
+    ghost from_gives = { λ stuck refused. refused ≡ Refused.Grammar stuck };
 
-fn refused(refusal: u8, column: usize) -> Assembled
-    ensures { result ≡ refused_with refusal column }
-{
-    Assembled {
-        refusal,
-        column,
-        word: 0,
+    fn from(stuck: Stuck) -> Refused {
+        Refused::Grammar(stuck)
     }
 }
 
-fn after(seen: Check, f: Field) -> Check
-    ensures { result ≡ after_of seen f }
-{
-    match seen {
-        Check::Off(k) => Check::Off(k),
-        Check::Unfit => match f {
-            Field::Off(k) => Check::Off(k),
-            Field::Unfit => Check::Unfit,
-            Field::Code(_) => Check::Unfit,
-        },
-        Check::Fine => match f {
-            Field::Off(k) => Check::Off(k),
-            Field::Unfit => Check::Unfit,
-            Field::Code(_) => Check::Fine,
-        },
-    }
-}
+impl From<Misfit> for Refused {
+    ghost from_gives = { λ misfit refused. refused ≡ refused_by misfit };
 
-// Left to right.
-fn check_all(o: Operands) -> Check
-    ensures { result ≡ checked_of o }
-{
-    let a = o.a;
-    let b = o.b;
-    let c = o.c;
-    let d = o.d;
-    let e = o.e;
-    after(after(after(after(after(Check::Fine, e), d), c), b), a)
-}
-
-// The instruction of a row with the line's operands, written.
-fn encode(profile: Profile, word: u32, o: Operands) -> Assembled
-    ensures { result ≡ encoded_of profile (decode_on profile word) o }
-{
-    let what = insn::read::read(profile, word);
-    match what {
-        Decoded::Illegal => refused(6, 0),
-        Decoded::Insn(i) => {
-            let written = insn::write::write(profile, fill(i, codes_of(o)));
-            Assembled {
-                refusal: written.refusal,
-                column: 0,
-                word: written.word,
-            }
+    fn from(misfit: Misfit) -> Refused {
+        match misfit {
+            Misfit::Off(off) => Refused::Value(off),
+            Misfit::Unfit => Refused::Operands,
         }
     }
 }
 
-fn settle(profile: Profile, word: u32, o: Operands) -> Assembled
-    ensures { result ≡ settled_of profile (checked_of o) (decode_on profile word) o }
+// What the operands seen so far come to: one that does not fit counts only if no value is off.
+fn after(seen: Result<(), Misfit>, field: Field) -> Result<(), Misfit>
+    ensures { result ≡ after_of seen field }
 {
-    let checked = check_all(o);
-    match checked {
-        Check::Off(k) => refused(12, k),
-        Check::Unfit => refused(6, 0),
-        Check::Fine => encode(profile, word, o),
+    match seen {
+        Err(Misfit::Off(_)) => seen,
+        _ => field.and(seen),
     }
+}
+
+// Left to right.
+fn check_all(o: Operands) -> Result<(), Misfit>
+    ensures { result ≡ checked_of o }
+{
+    after(after(after(after(after(Ok(()), o.e), o.d), o.c), o.b), o.a)
+}
+
+// All five are looked at before the first is taken: one that does not fit counts only if no value is off.
+#[tactic(auto, using(crate::proofs::Checked::all_held))]
+fn codes(o: Operands) -> Result<Codes, Misfit>
+    ensures { result ≡ held_of (checked_of o) o }
+{
+    check_all(o)?;
+    Ok(Five {
+        a: o.a?,
+        b: o.b?,
+        c: o.c?,
+        d: o.d?,
+        e: o.e?,
+    })
+}
+
+// The instruction of a row with the line's operands, written.
+fn encode(profile: Profile, word: u32, codes: Codes) -> Result<u32, Refused>
+    ensures { result ≡ encoded_with profile (decode_on profile word) codes }
+{
+    let row = insn::read::read(profile, word).ok_or(Refused::Operands)?;
+    insn::write::write(profile, fill(row, codes)).ok_or(Refused::Operands)
+}
+
+fn settle(profile: Profile, found: Found) -> Result<u32, Refused>
+    ensures { result ≡ settled_of profile (checked_of found.operands) (decode_on profile found.word) found.operands }
+{
+    encode(profile, found.word, codes(found.operands)?)
 }
 
 // By the first byte.
-fn place(profile: Profile, line: &[u8]) -> Done
+#[tactic(auto, using(crate::proofs::Letters::placed_empty, crate::proofs::Letters::placed_read))]
+fn place(profile: Profile, line: &[u8]) -> Result<Found, Stuck>
     ensures { Placed profile line.now result }
 {
-    let mut nothing = [0u8; 0];
-    if line.len() == 0 {
-        return Done::Bad(0);
+    match line.first() {
+        Some(letter) => find(profile, *letter, line),
+        None => Err(Stuck { column: 0 }),
     }
-    at_letter(profile, line[0], Job::Read, line, &mut nothing)
 }
 
 // A line of up to 256 bytes.
-fn short(profile: Profile, line: &[u8]) -> Assembled
+#[tactic(auto, using(crate::proofs::Answers::placed_answer, crate::proofs::Letters::short_bad))]
+fn short(profile: Profile, line: &[u8]) -> Result<u32, Refused>
     requires { length line.now ≤ 256 }
     ensures { Answer profile line.now result }
 {
-    let found = place(profile, line);
-    match found {
-        Done::Bad(k) => refused(11, k),
-        Done::Row(word, o) => settle(profile, word, o),
-        Done::Printed(_) => refused(11, 0),
-    }
+    settle(profile, place(profile, line)?)
 }
 
 // A longer line, by its first 256 bytes.
-fn long(profile: Profile, line: &[u8]) -> Assembled
+#[tactic(auto, using(crate::proofs::Letters::long_bad))]
+fn long(profile: Profile, line: &[u8]) -> Result<u32, Refused>
     requires { 256 < length line.now }
     ensures { Answer profile line.now result }
 {
-    let found = place(profile, &line[..256]);
-    match found {
-        Done::Bad(k) => refused(11, k),
-        Done::Row(_, _) => refused(11, 256),
-        Done::Printed(_) => refused(11, 256),
-    }
+    place(profile, &line[..256])?;
+    Err(Refused::Grammar(Stuck { column: 256 }))
 }
 
-pub fn assemble(profile: Profile, line: &[u8]) -> Assembled
+pub fn assemble(profile: Profile, line: &[u8]) -> Result<u32, Refused>
     ensures { Answer profile line.now result }
 {
     if line.len() <= 256 {

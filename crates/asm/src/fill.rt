@@ -1,50 +1,15 @@
 // An instruction with its operands' fields in place of what it had there.
 ghost use Rattle.std.specs.Prelude.{◌≡◌};
-ghost use Rattle.asm.specs.Inside.{code_in, codes_in, eight_of, sixteen_of, filled, filled_spr, filled_arithmetic, filled_logical, filled_compare, filled_rotate, filled_load_store, filled_branch, filled_system};
-ghost use Rattle.insn.specs.declared.instr.Arithmetic.{Arithmetic};
-ghost use Rattle.insn.specs.declared.instr.Rotate.{Rotate};
+ghost use Rattle.asm.specs.Inside.{eight_of, sixteen_of, filled, filled_arithmetic, filled_logical, filled_compare, filled_rotate, filled_load_store, filled_branch, filled_system};
 
 use insn::instr::*;
-use syntax::field::Field;
-use syntax::line::Operands;
+use syntax::five::Five;
 
-// The contents of the fields of a line's operands: a is of the last, b of the one before it.
-#[derive(Clone, Copy)]
-pub struct Codes {
-    pub a: u32,
-    pub b: u32,
-    pub c: u32,
-    pub d: u32,
-    pub e: u32,
-}
+// The contents of the fields of a line's operands: a is of the last, b of the one before it. A Queue is the other way about;
+// no struct of their own, which each of the uses below would have to take off.
+pub type Codes = Five<u32>;
 
-fn code(f: Field) -> u32
-    ensures { result ≡ code_in f }
-{
-    match f {
-        Field::Code(n) => n,
-        Field::Unfit => 0,
-        Field::Off(_) => 0,
-    }
-}
-
-pub fn codes_of(o: Operands) -> Codes
-    ensures { result ≡ codes_in o }
-{
-    let a = o.a;
-    let b = o.b;
-    let c = o.c;
-    let d = o.d;
-    let e = o.e;
-    Codes {
-        a: code(a),
-        b: code(b),
-        c: code(c),
-        d: code(d),
-        e: code(e),
-    }
-}
-
+// What is over is cut off, as `filled` says; it cannot come.
 fn eight(n: u32) -> u8
     ensures { result ≡ eight_of n }
 {
@@ -121,30 +86,18 @@ fn arithmetic(x: Arithmetic, o: Codes) -> Arithmetic
             rb: eight(o.a),
             rc,
         },
-        Arithmetic::MultiplyImm { .. } => multiply_imm(o),
-        Arithmetic::MultiplyLow { oe, rc, .. } => multiply_low(oe, rc, o),
-    }
-}
-
-fn multiply_imm(o: Codes) -> Arithmetic
-    ensures { result ≡ filled_arithmetic (Arithmetic.MultiplyImm 0 0 0) o }
-{
-    Arithmetic::MultiplyImm {
-        rt: eight(o.c),
-        ra: eight(o.b),
-        si: sixteen(o.a),
-    }
-}
-
-fn multiply_low(oe: bool, rc: bool, o: Codes) -> Arithmetic
-    ensures { result ≡ filled_arithmetic (Arithmetic.MultiplyLow 0 0 0 oe rc) o }
-{
-    Arithmetic::MultiplyLow {
-        rt: eight(o.c),
-        ra: eight(o.b),
-        rb: eight(o.a),
-        oe,
-        rc,
+        Arithmetic::MultiplyImm { .. } => Arithmetic::MultiplyImm {
+            rt: eight(o.c),
+            ra: eight(o.b),
+            si: sixteen(o.a),
+        },
+        Arithmetic::MultiplyLow { oe, rc, .. } => Arithmetic::MultiplyLow {
+            rt: eight(o.c),
+            ra: eight(o.b),
+            rb: eight(o.a),
+            oe,
+            rc,
+        },
     }
 }
 
@@ -225,20 +178,14 @@ fn rotate(x: Rotate, o: Codes) -> Rotate
             sh: eight(o.a),
             rc,
         },
-        Rotate::Double { op, rc, .. } => rotate_double(op, rc, o),
-    }
-}
-
-fn rotate_double(op: RotateDoubleOp, rc: bool, o: Codes) -> Rotate
-    ensures { result ≡ filled_rotate (Rotate.Double op 0 0 0 0 rc) o }
-{
-    Rotate::Double {
-        op,
-        ds: eight(o.c),
-        da: eight(o.d),
-        sh: eight(o.b),
-        mb: eight(o.a),
-        rc,
+        Rotate::Double { op, rc, .. } => Rotate::Double {
+            op,
+            ds: eight(o.c),
+            da: eight(o.d),
+            sh: eight(o.b),
+            mb: eight(o.a),
+            rc,
+        },
     }
 }
 
@@ -309,29 +256,27 @@ fn branch(x: Branch, o: Codes) -> Branch
     }
 }
 
-// mfspr names the register first, mtspr last.
-fn spr(op: SprOp, o: Codes) -> System
-    ensures { result ≡ filled_spr op o }
-{
-    match op {
-        SprOp::Mfspr => System::Spr {
-            op: SprOp::Mfspr,
-            rt: eight(o.b),
-            spr: sixteen(o.a),
-        },
-        SprOp::Mtspr => System::Spr {
-            op: SprOp::Mtspr,
-            rt: eight(o.a),
-            spr: sixteen(o.b),
-        },
-    }
-}
-
 fn system(x: System, o: Codes) -> System
     ensures { result ≡ filled_system x o }
 {
     match x {
-        System::Spr { op, .. } => spr(op, o),
+        // mfspr names the register first, mtspr last.
+        System::Spr {
+            op: SprOp::Mfspr,
+            ..
+        } => System::Spr {
+            op: SprOp::Mfspr,
+            rt: eight(o.b),
+            spr: sixteen(o.a),
+        },
+        System::Spr {
+            op: SprOp::Mtspr,
+            ..
+        } => System::Spr {
+            op: SprOp::Mtspr,
+            rt: eight(o.a),
+            spr: sixteen(o.b),
+        },
         System::Move { op, .. } => System::Move { op, rt: eight(o.a) },
         System::Wrteei { .. } => System::Wrteei { e: o.a == 1 },
         System::Rfi => System::Rfi,

@@ -4,4 +4,4 @@
 pub mod assemble;
 pub mod disassemble;
 pub mod fill;
-pub mod queue;
+pub mod operands;

@@ -1,61 +1,28 @@
 // The small program: runs a capture from standard input for 1,000 steps and prints one line.
 #![tactic(auto)]
 
-ghost use Rattle.std.specs.Prelude.{◌≡◌, ◌%◌, ◌≤◌, length, IfOk};
-ghost use Rattle.bench.specs.Hex.{hex_digit, hex_of};
+ghost use Rattle.std.specs.Prelude.{◌≤◌, length, IfOk};
 
 use insn::profile::Profile;
-use machine::refusal::{accepts, number};
+use machine::refusal::Refusal;
+use run::outcome::Outcome;
 use std::io;
-use std::io::{Read, Write};
-
-// An upper-case hex digit.
-fn hex_digit(n: u32) -> u8
-    ensures { result ≡ hex_digit (n % 16) }
-{
-    let d = (n % 16) as u8;
-    if d < 10 { 48 + d } else { 55 + d }
-}
-
-// A word as eight hex digits.
-fn hex(word: u32) -> [u8; 8]
-    ensures { result ≡ hex_of word }
-{
-    [
-        hex_digit(word / 0x1000_0000),
-        hex_digit(word / 0x100_0000),
-        hex_digit(word / 0x10_0000),
-        hex_digit(word / 0x1_0000),
-        hex_digit(word / 0x1000),
-        hex_digit(word / 0x100),
-        hex_digit(word / 0x10),
-        hex_digit(word),
-    ]
-}
-
-fn print_refused(rt: &impl Print, no: u32) -> io::Result<()> {
-    println!(rt; "refused {no}")
-}
-
-fn print_line(rt: &impl Print, steps: u32, halt: u32, iar: u32) -> io::Result<()> {
-    print!(rt; "steps {steps} halt {halt} iar ")?;
-    let digits = hex(iar);
-    io::writer(rt).write_all(&digits)?;
-    println!(rt; "")
-}
+use std::io::Read;
 
 // The capture is played in its own memory part.
-fn play(rt: &impl Print, file: &mut [u8]) -> io::Result<()> {
-    let start = capture::read::state_of(Profile::Ppe42, &file[..]);
-    let refusal = start.refusal;
-    if accepts(refusal) {
-        let state = start.state;
-        let size = capture::read::memory_part(Profile::Ppe42, &file[..]).len();
-        let outcome = run::run::run(Profile::Ppe42, state, &mut file[..size], b"", 1000);
-        let iar = outcome.state.iar;
-        print_line(rt, outcome.steps, outcome.halt, iar)
-    } else {
-        print_refused(rt, number(refusal))
+#[tactic(auto, using(crate::proofs::Laws::part_le, crate::proofs::Laws::part_taken))]
+fn played(file: &mut [u8]) -> Result<Outcome, Refusal> {
+    let state = capture::read::state_of(Profile::Ppe42, &file[..])?;
+    let size = capture::read::memory_part(Profile::Ppe42, &file[..]).len();
+    run::run::run(Profile::Ppe42, state, &mut file[..size], b"", 1000)
+}
+
+fn print_played(rt: &impl Print, played: Result<Outcome, Refusal>) -> io::Result<()> {
+    match played {
+        Ok(Outcome { state, halt, steps }) => {
+            println!(rt; "steps {steps} halt {halt} iar {:08X}", state.iar)
+        }
+        Err(refusal) => println!(rt; "refused {}", u32::from(refusal)),
     }
 }
 
@@ -80,6 +47,6 @@ fn main(rt: HostRuntime) -> io::Result<()> {
     if n > 65536 {
         println!(rt; "too long")
     } else {
-        play(&rt, &mut buffer[..n])
+        print_played(&rt, played(&mut buffer[..n]))
     }
 }

@@ -13,11 +13,13 @@ use Rattle.word.proofs.Truth.{and_true}
 use Rattle.insn.specs.declared.profile.Profile.{Profile}
 use Rattle.machine.specs.declared.state.State.{State}
 use Rattle.machine.specs.declared.refusal.Refusal.{Refusal}
-use Rattle.machine.specs.Refusal.{accepts_of, unless}
-use Rattle.machine.specs.Register.{refusal_of, start_refusal}
-use Rattle.machine.proofs.Refusals.{or_accepts, unless_accepts, start_accepts}
-use Rattle.capture.specs.Read.{size_of, state_in, formed_of, read_refusal}
-use Rattle.capture.specs.Write.{write_refusal}
+use Rattle.std.specs.Prelude.{Ok, Err, is_ok}
+use Rattle.std.specs.Result.{result_and}
+use Rattle.machine.specs.Refusal.{Checked, unless}
+use Rattle.machine.specs.Register.{check_of, check_start}
+use Rattle.machine.proofs.Refusals.{and_accepts, unless_accepts, start_accepts}
+use Rattle.capture.specs.Read.{size_of, state_in, formed_of, check_read, read_of}
+use Rattle.capture.specs.Write.{check_write}
 
 -- a file's length and its last three words
 pub record Formed (f : List ℕ) : Type 0 where
@@ -41,24 +43,33 @@ formed_shows f h =
 pub record Reads (p : Profile) (f : List ℕ) : Type 0 where
   pub formed : Formed f
   pub sized : sized_of (size_of f) ≡ true
-  pub state : refusal_of p (state_in f) ≡ Refusal.None
+  pub state : check_of p (state_in f) ≡ Ok tt
 
-pub read_accepts : (p : Profile) (f : List ℕ) → accepts_of (read_refusal p f) ≡ true → Reads p f
-unfolding read_refusal
+pub read_accepts : (p : Profile) (f : List ℕ) → is_ok (check_read p f) ≡ true → Reads p f
+unfolding check_read
 read_accepts p f h =
-    let a = or_accepts (unless (formed_of f) Refusal.Capture) _ h in
+    let a = and_accepts (unless (formed_of f) Refusal.Capture) (check_start p (state_in f) (size_of f)) h in
     let b = start_accepts p (state_in f) (size_of f) a.1 in
-    record { formed = formed_shows f (unless_accepts _ Refusal.Capture refl a.0); sized = b.0; state = b.1 }
+    record { formed = formed_shows f (unless_accepts _ Refusal.Capture a.0); sized = b.0; state = b.1 }
+
+and_ok : (c : Checked) (s : State) → is_ok (result_and c (Ok s)) ≡ is_ok c
+and_ok (Ok u) s = refl
+and_ok (Err r) s = refl
+
+-- a state is answered where nothing is refused
+pub read_ok : (p : Profile) (f : List ℕ) → is_ok (read_of p f) ≡ is_ok (check_read p f)
+unfolding read_of
+read_ok p f = and_ok (check_read p f) (state_in f)
 
 -- a state and m bytes of memory that n bytes of output take
 pub record Writes (p : Profile) (s : State) (m n : ℕ) : Type 0 where
   pub sized : sized_of m ≡ true
-  pub state : refusal_of p s ≡ Refusal.None
+  pub state : check_of p s ≡ Ok tt
   pub room : m + 156 ≤ n
 
-pub write_accepts : (p : Profile) (s : State) (m n : ℕ) → accepts_of (write_refusal p s m n) ≡ true → Writes p s m n
-unfolding write_refusal
+pub write_accepts : (p : Profile) (s : State) (m n : ℕ) → is_ok (check_write p s m n) ≡ true → Writes p s m n
+unfolding check_write
 write_accepts p s m n h =
-    let a = or_accepts (start_refusal p s m) _ h in
+    let a = and_accepts (check_start p s m) (unless (leb (m + 156) n) Refusal.Output) h in
     let b = start_accepts p s m a.0 in
-    record { sized = b.0; state = b.1; room = leb-true (m + 156) n (unless_accepts _ Refusal.Output refl a.1) }
+    record { sized = b.0; state = b.1; room = leb-true (m + 156) n (unless_accepts _ Refusal.Output a.1) }

@@ -1,11 +1,15 @@
 -- Laws of lists, of the loops that read and write words, and of the stores that make a capture. Assumes nothing.
-use Prim.Native.Nat.{ℕ, zero, suc, ◌+◌, ◌-◌, ◌*◌, ◌≤◌, ◌<◌}
+use Prim.Native.Nat.{ℕ, zero, suc, ◌+◌, ◌*◌, ◌≤◌, ◌<◌}
 use native.Mathlib.Omega.{arith}
+use native.Mathlib.Nat.{zero-add}
 use native.Mathlib.Numerals.{add-one}
 use mathlib.Core.Path.{◌≡◌, refl}
-use mathlib.Core.List.{List, [], ◌∷◌, ◌++◌, append-nil}
-use lib.ListN.{length, get_or, take, drop, set, drop_of_length-le, length-append}
-use lib.Seq.{sets, sets-eq, drop-cons, take_all, take-suc-set, append_snoc}
+use mathlib.Core.List.{List, [], ◌∷◌, ◌++◌}
+use lib.ListN.{length, get_or, take, drop, drop_of_length-le, length-append}
+use borrow.Author.Rules.{rules}
+use borrow.Rule.Slice.PartMut.{put_mid}
+use Rattle.std.proofs.lemmas.List.{same_lists, places}
+use lib.Seq.{sets, sets-eq, drop-cons}
 use Rattle.word.specs.declared.width.Width.{Width}
 use Rattle.memory.specs.Load.{value_at}
 use Rattle.memory.specs.Store.{bytes_of}
@@ -23,24 +27,18 @@ pub elements_are : (n at : ℕ) (xs : List ℕ) → at + n ≤ length xs → ele
 elements_are zero at xs h = refl
 elements_are (suc n) at xs h = rw (elements_are n (suc at) xs (omega arith), drop-cons xs at 0 (omega arith))
 
-pub elements_all : (n : ℕ) (xs ys : List ℕ) → length xs ≡ n → elements n 0 xs ++ ys ≡ xs ++ ys
-elements_all n xs ys h = rw (elements_are n 0 xs (omega arith), take_all n xs (omega arith))
+-- what is written behind a part
+pub behind : (n k : ℕ) (xs zs ys : List ℕ) → length xs ≡ n → length zs ≡ k → length ys ≡ k → put_mid n k (xs ++ zs) ys ≡ xs ++ ys
+behind n k xs zs ys h z y = same_lists _ _ (search (rules, places)) (λ i d l. grind (arith, places))
 
--- one word more is read
-pub words_more : (n at k : ℕ) (f ws : List ℕ) → k < n → n ≤ length ws
-    → take k ws ++ words_at (n - k) f (at + 4 * k) ≡ take (k + 1) (set ws k (value_at Width.Word f (at + 4 * k))) ++ words_at (n - (k + 1)) f (at + 4 * (k + 1))
+-- each word that is read
+pub words_place : (n at k : ℕ) (f : List ℕ) (d : ℕ) → k < n → get_or (words_at n f at) k d ≡ value_at Width.Word f (at + 4 * k)
 unfolding words_at
-words_more n at k f ws h l =
-    let d : n - k ≡ suc (n - (k + 1)) = omega arith in
-    let p : at + 4 * (k + 1) ≡ at + 4 * k + 4 = omega arith in
-    rw (d, p, add-one, take-suc-set ws k (value_at Width.Word f (at + 4 * k)) (omega arith), append_snoc)
-
--- all are read
-pub words_all : (n k p : ℕ) (f ws : List ℕ) → n ≤ k → length ws ≤ k → take k ws ++ words_at (n - k) f p ≡ ws
-unfolding words_at
-words_all n k p f ws h l =
-    let z : n - k ≡ 0 = omega arith in
-    rw (z, append-nil, take_all k ws l)
+words_place zero at k f d h = absurd (omega arith)
+words_place (suc n) at zero f d h = let z : at + 4 * 0 ≡ at = omega arith in rw z
+words_place (suc n) at (suc k) f d h =
+    let p : at + 4 + 4 * k ≡ at + 4 * suc k = omega arith in
+    rw p at (words_place n (at + 4) k f d (omega arith))
 
 -- one word more is written
 pub put_more : (at k : ℕ) (out ws : List ℕ) → k < length ws
@@ -74,12 +72,14 @@ module _ (s : State) (m : List ℕ) (g : length s.gpr ≡ 16) where
 
   -- memory, state and trailer stored one after the other
   pub put_capture : (out : List ℕ) → length m + 156 ≤ length out
-      → sets (sets (sets out 0 m) (length m) (word_bytes (words_of s))) (length m + 144) (word_bytes (trailer_of (length m))) ≡ capture_of s m ++ drop (length m + 156) out
+      → sets (sets (m ++ drop (length m) out) (length m) (word_bytes (words_of s))) (length m + 144) (word_bytes (trailer_of (length m))) ≡ capture_of s m ++ drop (length m + 156) out
   unfolding capture_of
   put_capture out h =
       let q : length m + 144 ≡ 0 + length (m ++ word_bytes (words_of s)) = simp length-append (omega (arith, state_bytes s g)) in
       let z : 0 + length (m ++ word_bytes (words_of s) ++ word_bytes (trailer_of (length m))) ≡ length m + 156 = omega (arith, capture_length) in
+      let first : sets out 0 m ≡ m ++ drop (length m) out = simp zero-add at (sets-eq m out 0 (omega arith)) in
       rw (
+        ← first,
         sets_at m (word_bytes (words_of s)) out 0 (length m) (omega arith),
         sets_at (m ++ word_bytes (words_of s)) (word_bytes (trailer_of (length m))) out 0 (length m + 144) q,
         sets-eq (m ++ word_bytes (words_of s) ++ word_bytes (trailer_of (length m))) out 0 (omega arith),

@@ -13,12 +13,11 @@ use Rattle.memory.specs.Access.{sized_of}
 use Rattle.memory.specs.Load.{value_at}
 use Rattle.insn.specs.declared.profile.Profile.{Profile}
 use Rattle.machine.specs.declared.state.State.{State}
-use Rattle.machine.specs.declared.refusal.Refusal.{Refusal}
-use Rattle.machine.specs.Refusal.{accepts_of}
-use Rattle.machine.specs.Register.{refusal_of, start_refusal}
+use Rattle.std.specs.Prelude.{Ok, is_ok}
+use Rattle.machine.specs.Register.{check_of, check_start}
 use Rattle.capture.specs.Words.{Below, words_at, word_bytes, words_of}
-use Rattle.capture.specs.Read.{size_of, state_in, formed_of, read_refusal, read_of, part_of}
-use Rattle.capture.specs.Write.{trailer_of, capture_of, write_refusal, written_of, out_of}
+use Rattle.capture.specs.Read.{size_of, state_in, formed_of, check_read, read_of, state_or_zero, part_of}
+use Rattle.capture.specs.Write.{trailer_of, capture_of, check_write, written_of, out_of}
 use Rattle.capture.proofs.Laws.{state_words, state_bytes, capture_length}
 use Rattle.capture.proofs.Checks.{Formed, read_accepts, write_accepts}
 use Rattle.memory.proofs.Laws.{sized_bounds}
@@ -88,33 +87,33 @@ module _ (p : Profile) (s : State) (m : List ℕ) (g : length s.gpr ≡ 16) (w :
   unfolding capture_of
   capture_part = rw (capture_size, append_assoc) (take_at m _ (length m) refl)
 
-  capture_refusal : refusal_of p s ≡ Refusal.None → read_refusal p (capture_of s m) ≡ Refusal.None
-  unfolding read_refusal start_refusal
-  capture_refusal r = rw (capture_formed, capture_size, sized, capture_state, r)
+  capture_checked : check_of p s ≡ Ok tt → check_read p (capture_of s m) ≡ Ok tt
+  unfolding check_read check_start
+  capture_checked r = rw (capture_formed, capture_size, sized, capture_state, r)
 
-  pub capture_reads : refusal_of p s ≡ Refusal.None → (read_of p (capture_of s m) ≡ record { refusal = Refusal.None; state = s }) × (part_of p (capture_of s m) ≡ m)
+  pub capture_reads : check_of p s ≡ Ok tt → (read_of p (capture_of s m) ≡ Ok s) × (part_of p (capture_of s m) ≡ m)
   unfolding read_of part_of
-  capture_reads r = (rw (capture_refusal r, capture_state), rw (capture_refusal r, capture_part))
+  capture_reads r = (rw (capture_checked r, capture_state), rw (capture_checked r, capture_part))
 
 -- the first M + 156 bytes of the output, if nothing is refused
-written_is : (p : Profile) (s : State) (m out : List ℕ) → write_refusal p s (length m) (length out) ≡ Refusal.None → length s.gpr ≡ 16 → take (length m + 156) (out_of p s m out) ≡ capture_of s m
+written_is : (p : Profile) (s : State) (m out : List ℕ) → check_write p s (length m) (length out) ≡ Ok tt → length s.gpr ≡ 16 → take (length m + 156) (out_of p s m out) ≡ capture_of s m
 unfolding out_of
 written_is p s m out ok g = rw ok (take_at (capture_of s m) (drop (length m + 156) out) (length m + 156) (capture_length s m g))
 
 -- what was written reads back as the same state and the same memory
-pub written_reads : (p : Profile) (s : State) (m out : List ℕ) → write_refusal p s (length m) (length out) ≡ Refusal.None → length s.gpr ≡ 16 → Below (2 ^ 32) (words_of s)
-    → (read_of p (take (length m + 156) (out_of p s m out)) ≡ record { refusal = Refusal.None; state = s }) × (part_of p (take (length m + 156) (out_of p s m out)) ≡ m)
+pub written_reads : (p : Profile) (s : State) (m out : List ℕ) → check_write p s (length m) (length out) ≡ Ok tt → length s.gpr ≡ 16 → Below (2 ^ 32) (words_of s)
+    → (read_of p (take (length m + 156) (out_of p s m out)) ≡ Ok s) × (part_of p (take (length m + 156) (out_of p s m out)) ≡ m)
 written_reads p s m out ok g w =
-    let a = write_accepts p s (length m) (length out) (ap accepts_of ok) in
+    let a = write_accepts p s (length m) (length out) (ap is_ok ok) in
     rw (written_is p s m out ok g) (capture_reads p s m g w a.sized a.state)
 
 part_length : (f : List ℕ) → length (take (size_of f) f) ≡ size_of f
 part_length f = simp length-take (omega arith)
 
 -- a capture that is not refused
-module _ (p : Profile) (f : List ℕ) (ok : read_refusal p f ≡ Refusal.None) where
-  read_state : (read_of p f).state ≡ state_in f
-  unfolding read_of
+module _ (p : Profile) (f : List ℕ) (ok : check_read p f ≡ Ok tt) where
+  read_state : state_or_zero (read_of p f) ≡ state_in f
+  unfolding read_of state_or_zero
   read_state = rw ok
 
   read_part : part_of p f ≡ take (size_of f) f
@@ -125,7 +124,7 @@ module _ (p : Profile) (f : List ℕ) (ok : read_refusal p f ≡ Refusal.None) w
   read_capture : Below 256 f → capture_of (state_in f) (take (size_of f) f) ≡ f
   unfolding capture_of state_in
   read_capture b =
-      let a = read_accepts p f (ap accepts_of ok) in
+      let a = read_accepts p f (ap is_ok ok) in
       rw (
         part_length f,
         words_of_state (words_at 36 f (size_of f)) (words_length 36 (size_of f) f),
@@ -137,17 +136,17 @@ module _ (p : Profile) (f : List ℕ) (ok : read_refusal p f ≡ Refusal.None) w
       )
       (take_all (size_of f + 144 + 12) f (omega arith))
 
-  read_accepted : (n : ℕ) → length f ≤ n → write_refusal p (state_in f) (size_of f) n ≡ Refusal.None
-  unfolding write_refusal start_refusal
+  read_accepted : (n : ℕ) → length f ≤ n → check_write p (state_in f) (size_of f) n ≡ Ok tt
+  unfolding check_write check_start
   read_accepted n h =
-      let a = read_accepts p f (ap accepts_of ok) in
+      let a = read_accepts p f (ap is_ok ok) in
       rw (a.sized, a.state, le-leb (size_of f + 156) n (omega arith))
 
 -- what was read is written again as the same bytes
-pub read_writes : (p : Profile) (f out : List ℕ) → read_refusal p f ≡ Refusal.None → Below 256 f → length out ≡ length f
-    → (written_of p (read_of p f).state (part_of p f) out ≡ record { refusal = Refusal.None; bytes = length f }) × (out_of p (read_of p f).state (part_of p f) out ≡ f)
+pub read_writes : (p : Profile) (f out : List ℕ) → check_read p f ≡ Ok tt → Below 256 f → length out ≡ length f
+    → (written_of p (state_or_zero (read_of p f)) (part_of p f) out ≡ Ok (length f)) × (out_of p (state_or_zero (read_of p f)) (part_of p f) out ≡ f)
 unfolding written_of out_of
 read_writes p f out ok b n =
-    let e : size_of f + 156 ≡ length f = omega (arith, read_accepts p f (ap accepts_of ok)) in
+    let e : size_of f + 156 ≡ length f = omega (arith, read_accepts p f (ap is_ok ok)) in
     rw (read_state p f ok, read_part p f ok, part_length f, read_accepted p f ok (length out) (omega arith), e)
     (refl, rw (read_capture p f ok b, drop_of_length-le out {i = length f} (omega arith)) (append-nil f))

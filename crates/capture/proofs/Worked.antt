@@ -7,11 +7,11 @@ use Rattle.memory.specs.Access.{sized_of}
 use Rattle.memory.specs.Load.{value_at}
 use Rattle.memory.specs.Store.{bytes_of}
 use Rattle.insn.specs.declared.profile.Profile.{Profile}
-use Rattle.machine.specs.declared.refusal.Refusal.{Refusal}
-use Rattle.machine.specs.Register.{clean_of, sound_of, refusal_of, start_refusal}
+use Rattle.std.specs.Prelude.{Ok}
+use Rattle.machine.specs.Register.{clean_of, sound_of, check_of, check_start}
 use Rattle.capture.specs.Words.{words_at, word_bytes, words_of, state_of}
-use Rattle.capture.specs.Read.{state_in, formed_of, read_refusal, read_of, part_of}
-use Rattle.capture.specs.Write.{capture_of, write_refusal, out_of}
+use Rattle.capture.specs.Read.{state_in, formed_of, check_read, read_of, part_of}
+use Rattle.capture.specs.Write.{capture_of, check_write, out_of}
 
 abbrev memory : List ℕ
 memory = 0x48 ∷ replicate 31 0
@@ -23,13 +23,13 @@ abbrev file : List ℕ
 file = memory ++ replicate 144 0 ++ trailer
 
 -- it reads, and no byte of it is lost, on either core
-pub scope_reads : (p : Profile) → (read_of p file ≡ record { refusal = Refusal.None; state = state_of (replicate 36 0) }) × (part_of p file ≡ memory)
-unfolding read_of part_of read_refusal formed_of state_in state_of words_at value_at sized_of start_refusal refusal_of sound_of clean_of
+pub scope_reads : (p : Profile) → (read_of p file ≡ Ok (state_of (replicate 36 0))) × (part_of p file ≡ memory)
+unfolding read_of part_of check_read formed_of state_in state_of words_at value_at sized_of check_start check_of sound_of clean_of
 scope_reads Profile.Ppe42 = (refl, refl)
 scope_reads Profile.Ppe42x = (refl, refl)
 
 -- it is what the writer makes of its parts
 pub scope_writes : (p : Profile) → out_of p (state_of (replicate 36 0)) memory (replicate 188 0xFF) ≡ file
-unfolding out_of write_refusal capture_of words_of word_bytes bytes_of state_of sized_of start_refusal refusal_of sound_of clean_of
+unfolding out_of check_write capture_of words_of word_bytes bytes_of state_of sized_of check_start check_of sound_of clean_of
 scope_writes Profile.Ppe42 = refl
 scope_writes Profile.Ppe42x = refl

@@ -1,15 +1,15 @@
 -- Reading a capture: where its parts stand, the checks in their order, and what is answered.
-use Rattle.std.specs.Prelude.{ℕ, ◌-◌, Bool, ◌&&◌, List, [], leb, eqb, length, take, replicate}
+use Rattle.std.specs.Prelude.{ℕ, ◌-◌, Bool, ◌&&◌, List, [], leb, eqb, length, take, replicate, Result, Ok, Err, is_ok}
+use Rattle.std.specs.Result.{result_and}
 use Rattle.word.specs.declared.width.Width.{Width}
 use Rattle.memory.specs.Access.{pick}
 use Rattle.memory.specs.Load.{value_at}
 use Rattle.insn.specs.declared.profile.Profile.{Profile}
 use Rattle.machine.specs.declared.state.State.{State}
 use Rattle.machine.specs.declared.refusal.Refusal.{Refusal}
-use Rattle.machine.specs.Refusal.{accepts_of, unless, or_else}
-use Rattle.machine.specs.Register.{start_refusal}
+use Rattle.machine.specs.Refusal.{Checked, unless}
+use Rattle.machine.specs.Register.{check_start}
 use Rattle.capture.specs.Words.{words_at, state_of}
-use Rattle.capture.specs.declared.read.Read.{Read}
 
 -- M: all but the 36 words of the state and the 3 of the trailer
 abbrev pub size_of : List ℕ → ℕ
@@ -28,13 +28,18 @@ formed_of f =
     && eqb (value_at Width.Word f (length f - 4)) 1
 
 -- reading checks 7, 1, 2, 3
-unfoldable pub read_refusal : Profile → List ℕ → Refusal
-read_refusal p f = or_else (unless (formed_of f) Refusal.Capture) (start_refusal p (state_in f) (size_of f))
+unfoldable pub check_read : Profile → List ℕ → Checked
+check_read p f = result_and (unless (formed_of f) Refusal.Capture) (check_start p (state_in f) (size_of f))
 
--- the refusal, and the state that the file holds; refused, a zeroed state
-unfoldable pub read_of : Profile → List ℕ → Read
-read_of p f = record { refusal = read_refusal p f; state = pick (accepts_of (read_refusal p f)) (state_in f) (state_of (replicate 36 0)) }
+-- the state that the file holds, or the refusal
+unfoldable pub read_of : Profile → List ℕ → Result State Refusal
+read_of p f = result_and (check_read p f) (Ok (state_in f))
+
+-- the state that is handed out; refused, a zeroed state
+unfoldable pub state_or_zero : Result State Refusal → State
+state_or_zero (Ok s) = s
+state_or_zero (Err r) = state_of (replicate 36 0)
 
 -- the first M bytes; refused, an empty part
 unfoldable pub part_of : Profile → List ℕ → List ℕ
-part_of p f = pick (accepts_of (read_refusal p f)) (take (size_of f) f) []
+part_of p f = pick (is_ok (check_read p f)) (take (size_of f) f) []

@@ -1,20 +1,15 @@
 // Reading a capture: the memory part itself, and the state or the refusal.
 ghost use Rattle.std.specs.Prelude.{◌≡◌};
-ghost use Rattle.capture.specs.Read.{formed_of, read_refusal, read_of, part_of};
+ghost use Rattle.capture.specs.Read.{formed_of, read_of, part_of};
 
-use crate::words::{state_at, state_of_words};
+use crate::words::state_at;
 use insn::profile::Profile;
-use machine::refusal::{Refusal, accepts};
+use machine::refusal::Refusal;
 use machine::state::State;
 use memory::load::word_at;
 
-#[derive(Clone, Copy)]
-pub struct Read {
-    pub refusal: Refusal,
-    pub state: State,
-}
-
 // Whether it is long enough and ends in its trailer.
+#[tactic(auto, unfolding(crate::specs::Read::formed_of))]
 fn formed(file: &[u8]) -> bool
     ensures { result ≡ formed_of file.now }
 {
@@ -27,40 +22,26 @@ fn formed(file: &[u8]) -> bool
         & (word_at(file, len - 4) == 1)
 }
 
-// Reading checks 7, 1, 2, 3.
-fn read_refusal(profile: Profile, file: &[u8]) -> Refusal
-    ensures { result ≡ read_refusal profile file.now }
-{
-    if !formed(file) {
-        return Refusal::Capture;
-    }
-    let size = file.len() - 156;
-    state_at(file, size).start_refusal(profile, size)
-}
-
-// The state, or the refusal and a zeroed state.
-pub fn state_of(profile: Profile, file: &[u8]) -> Read
+// The state, or the refusal: of the form (`Capture`), then of the start (`Memory`, `Iar`, `Reserved`).
+#[tactic(auto, using(crate::proofs::Checks::formed_shows), unfolding(crate::specs::Read::read_of, crate::specs::Read::check_read, crate::specs::Read::state_in))]
+pub fn state_of(profile: Profile, file: &[u8]) -> Result<State, Refusal>
     ensures { result ≡ read_of profile file.now }
 {
-    let refusal = read_refusal(profile, file);
-    if accepts(refusal) {
-        Read {
-            refusal,
-            state: state_at(file, file.len() - 156),
-        }
-    } else {
-        Read {
-            refusal,
-            state: state_of_words([0; 36]),
-        }
+    if !formed(file) {
+        return Err(Refusal::Capture);
     }
+    let size = file.len() - 156;
+    let state = state_at(file, size);
+    state.check_start(profile, size)?;
+    Ok(state)
 }
 
 // The memory part itself, or an empty part.
+#[tactic(auto, using(crate::proofs::Checks::read_accepts, crate::proofs::Checks::read_ok), unfolding(crate::specs::Read::part_of))]
 pub fn memory_part(profile: Profile, file: &[u8]) -> &[u8]
     ensures { result.now ≡ part_of profile file.now }
 {
-    if accepts(read_refusal(profile, file)) {
+    if state_of(profile, file).is_ok() {
         let end = file.len() - 156;
         &file[..end]
     } else {

@@ -6,41 +6,34 @@ ghost use Rattle.capture.specs.Words.{words_at, word_bytes, state_of, words_of};
 use machine::state::State;
 use memory::load::word_at;
 use memory::store::put_word;
+use std::array;
 
 // The 36 words from a place on.
 pub fn words_at(file: &[u8], at: usize) -> [u32; 36]
     requires { at + 144 ≤ length file.now }
     ensures { result ≡ words_at 36 file.now at }
 {
-    let mut words = [0u32; 36];
-    let mut k = 0;
-    while k < 36 {
-        words[k] = word_at(file, at + 4 * k);
-        k += 1;
-    }
-    words
+    array::from_fn(|k| word_at(file, at + 4 * k))
 }
 
 // Writes words from a place on.
+#[tactic(auto, using(crate::proofs::Laws::put_more, crate::proofs::Laws::put_all))]
 pub fn put_words(out: &mut [u8], at: usize, words: &[u32])
     requires { at + 4 * length words.now ≤ length out.old }
     ensures { out.new ≡ sets out.old at (word_bytes words.now) }
 {
-    let mut k = 0;
-    while k < words.len() {
-        put_word(out, at + 4 * k, words[k]);
-        k += 1;
+    for (k, word) in words.iter().enumerate() {
+        put_word(out, at + 4 * k, *word);
     }
 }
 
 // The state that 36 words stand for, in the order of a capture.
+#[tactic(auto, unfolding(crate::specs::Words::state_of))]
 pub fn state_of_words(words: [u32; 36]) -> State
     ensures { result ≡ state_of words }
 {
-    let gpr = [
-        words[0], words[1], words[2], words[3], words[4], words[5], words[6], words[7], words[8],
-        words[9], words[10], words[11], words[12], words[13], words[14], words[15],
-    ];
+    let mut gpr = [0; 16];
+    gpr.copy_from_slice(&words[..16]);
     State {
         gpr,
         cr: words[16],
@@ -70,23 +63,9 @@ pub fn state_of_words(words: [u32; 36]) -> State
 pub fn words_of_state(state: State) -> [u32; 36]
     ensures { result ≡ words_of state }
 {
-    [
-        state.gpr[0],
-        state.gpr[1],
-        state.gpr[2],
-        state.gpr[3],
-        state.gpr[4],
-        state.gpr[5],
-        state.gpr[6],
-        state.gpr[7],
-        state.gpr[8],
-        state.gpr[9],
-        state.gpr[10],
-        state.gpr[11],
-        state.gpr[12],
-        state.gpr[13],
-        state.gpr[14],
-        state.gpr[15],
+    let mut words = [0; 36];
+    words[..16].copy_from_slice(&state.gpr);
+    words[16..].copy_from_slice(&[
         state.cr,
         state.ctr,
         state.dacr,
@@ -107,7 +86,8 @@ pub fn words_of_state(state: State) -> [u32; 36]
         state.xer,
         state.iar,
         state.halt,
-    ]
+    ]);
+    words
 }
 
 // The state whose words stand from a place on.

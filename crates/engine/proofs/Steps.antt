@@ -1,4 +1,5 @@
 -- A step is its lines 2 to 5 and then line 6 on what is read at IAR. Assumes nothing.
+use Rattle.std.specs.Prelude.{Some, None, Option, Ok, Err}
 use Prim.Native.Nat.{ℕ}
 use mathlib.Core.Bool.{Bool, true, false, not}
 use mathlib.Core.Path.{◌≡◌, refl, ◌∙◌}
@@ -6,14 +7,14 @@ use mathlib.Core.List.{List}
 use borrow.Author.Tests.{eq-eqb}
 use Rattle.word.specs.Bits.{bit_at}
 use Rattle.memory.specs.Access.{pick}
-use Rattle.memory.specs.Load.{fetch_of}
-use Rattle.memory.specs.declared.load.Loaded.{Loaded}
+use Rattle.memory.specs.Load.{Loaded, fetch_of}
+use Rattle.memory.specs.declared.access.Fault.{Fault}
 use Rattle.insn.specs.declared.profile.Profile.{Profile}
 use Rattle.machine.specs.After.{After, plain}
 use Rattle.machine.specs.Timer.{ticked_of, acts_of}
 use Rattle.machine.specs.Step.{fetched_of, running_of, awake_of, highest_of, interruptible_of, counted_of, step_of}
 use Rattle.machine.specs.declared.state.State.{State}
-use Rattle.machine.specs.declared.step.Pending.{Pending}
+use Rattle.machine.specs.declared.interrupt.Vector.{Vector}
 use Rattle.reading.specs.Form.{made_of}
 use Rattle.reading.specs.Reading.{reading_in, reading_of}
 use Rattle.reading.specs.declared.reading.Reading.{Reading}
@@ -28,9 +29,9 @@ performed p s m r = performed_of p s m r.word r.form
 
 fetched_is : (p : Profile) (s : State) (m : List ℕ) (got : Loaded) → fetched_of p s m got ≡ performed p s m (reading_in p got)
 unfolding performed_of made_of
-fetched_is p s m (Loaded.Value w) = rw (made_read p w)
-fetched_is p s m Loaded.Unaligned = refl
-fetched_is p s m Loaded.Outside = refl
+fetched_is p s m (Ok w) = rw (made_read p w)
+fetched_is p s m (Err Fault.Unaligned) = refl
+fetched_is p s m (Err Fault.Outside) = refl
 
 running_is : (p : Profile) (s : State) (m : List ℕ) → running_of p s m ≡ performed p s m (reading_of p m s.iar)
 unfolding running_of reading_of
@@ -44,10 +45,10 @@ awake_is : (p : Profile) (s : State) (m : List ℕ) (b : Bool) → pick b (plain
 awake_is p s m true = refl
 awake_is p s m false = refl
 
-pending_is : (p : Profile) (s : State) (m : List ℕ) (x : Pending) → interruptible_of p s m x ≡ rest p m (awaited_of p s x)
+pending_is : (p : Profile) (s : State) (m : List ℕ) (x : Option Vector) → interruptible_of p s m x ≡ rest p m (awaited_of p s x)
 unfolding awake_of
-pending_is p s m (Pending.Take v) = refl
-pending_is p s m Pending.Nothing = awake_is p s m (bit_at s.msr 13)
+pending_is p s m (Some v) = refl
+pending_is p s m None = awake_is p s m (bit_at s.msr 13)
 
 counted_is : (p : Profile) (s : State) (m : List ℕ) (e : ℕ) (b : Bool) → acts_of s e ≡ b → counted_of p s m e ≡ rest p m (ready_of p s e)
 unfolding counted_of ready_of

@@ -3,7 +3,7 @@ ghost use Rattle.std.specs.Prelude.{◌≡◌, ◌≤◌, ◌<◌, replicate};
 ghost use Rattle.reading.specs.declared.form.Form.{Form};
 ghost use Rattle.engine.specs.Engine.{Leads};
 
-use entries::tags::{no_tags, set_of, tag_of, way_of};
+use entries::tags::{Tags, no_tags, set_of, tag_of, way_of};
 use insn::profile::Profile;
 use machine::state::State;
 use marked::mark::unmark;
@@ -31,15 +31,11 @@ fn kept_upto(missed: u32, i: u32, upto: u32) -> u32
 }
 
 // The way that a new entry takes: the first empty one, or else each in turn.
-fn new_way(tags: &[[u64; 4]; 64], set: usize, missed: u32) -> usize
+fn new_way(tags: &Tags, set: usize, missed: u32) -> usize
     requires { set < 64 }
     ensures { result < 4 }
 {
-    let empty = way_of(tags, set, 0);
-    if empty < 4 {
-        return empty;
-    }
-    (missed % 4) as usize
+    way_of(tags, set, 0).unwrap_or((missed % 4) as usize)
 }
 
 fn no_readings() -> [[Reading; 4]; 64]
@@ -51,7 +47,8 @@ fn no_readings() -> [[Reading; 4]; 64]
     }; 4]; 64]
 }
 
-// Steps by kept words, until one halts or reaches past memory, the budget is used, or too many words were not found.
+// Steps by kept words, until one halts or reaches past memory, the budget is used, or too many words were not found. run::inside says
+// why the start's halt code has a clause and no type. The scope binds two arrays, of tags and of readings (docs/DECISIONS.md, Named forms).
 pub fn kept_stretch(
     profile: Profile,
     start: State,
@@ -62,23 +59,17 @@ pub fn kept_stretch(
     requires { start.halt ≤ 5 }
     ensures { Leads profile budget events.now start mem.old result mem.new }
 {
+    // tags and kept words are two arrays, as the scope names them: a search reads tags alone
     let mut tags = no_tags();
     let mut kept = no_readings();
     let mut s = start;
     let mut i = 0;
     let mut upto = budget;
     let mut missed = 0;
-    loop {
-        if upto <= i {
-            break;
-        }
-        if s.halt != 0 {
-            break;
-        }
-        let at_five = readied(profile, s, event_at(events, i));
-        let t = at_five.state;
-        let runs = at_five.runs;
-        if !runs {
+    while i < upto && s.halt == 0 {
+        let ready = readied(profile, s, event_at(events, i));
+        let t = ready.state;
+        if !ready.runs {
             s = t;
             i += 1;
             continue;
@@ -86,14 +77,17 @@ pub fn kept_stretch(
         let at = t.iar;
         let set = set_of(at);
         let tag = tag_of(at);
-        let mut way = way_of(&tags, set, tag);
-        if way >= 4 {
-            way = new_way(&tags, set, missed);
-            kept[set][way] = reading_at(profile, &mem[..], at);
-            tags[set][way] = tag;
-            missed = plus(missed, 1);
-            upto = kept_upto(missed, i, upto);
-        }
+        let way = match way_of(&tags, set, tag) {
+            Some(way) => way,
+            None => {
+                let way = new_way(&tags, set, missed);
+                kept[set][way] = reading_at(profile, &mem[..], at);
+                tags[set][way] = tag;
+                missed = plus(missed, 1);
+                upto = kept_upto(missed, i, upto);
+                way
+            }
+        };
         s = carry_out(profile, t, mem, &mut tags, kept[set][way]);
         i += 1;
     }

@@ -1,6 +1,6 @@
 -- Entries emptied: of a way, of the four ways of a set, of the words of some bytes and of a block. Assumes nothing.
-use Prim.Native.Nat.{ℕ, zero, suc, ◌+◌, ◌-◌, ◌*◌, ◌/◌, ◌%◌, ◌≤◌, ◌<◌}
-use native.Mathlib.Nat.{add-zero, mul-div_cancel}
+use Prim.Native.Nat.{ℕ, ◌+◌, ◌-◌, ◌*◌, ◌/◌, ◌%◌, ◌≤◌, ◌<◌}
+use native.Mathlib.Nat.{mul-div_cancel}
 use native.Mathlib.Omega.{arith}
 use mathlib.Core.Bool.{Bool, true, false}
 use mathlib.Core.Path.{◌≡◌, refl, ◌∙◌, sym}
@@ -81,33 +81,25 @@ pub without_yet : (t u : List (List ℕ)) (a n : ℕ) → Fewer t u → Without 
 unfolding Fewer Without
 without_yet t u a n f h s w b l q z p = h s w b l q z (f s w b p)
 
--- the four ways of a set, one after the other
-way_cases : (P : ℕ → Type 0) → P 0 → P 1 → P 2 → P 3 → (w : ℕ) → w < 4 → P w
-way_cases P a b c d zero h = a
-way_cases P a b c d (suc zero) h = b
-way_cases P a b c d (suc (suc zero)) h = c
-way_cases P a b c d (suc (suc (suc zero))) h = d
-way_cases P a b c d (suc (suc (suc (suc w)))) h = absurd (omega arith)
+-- one way more of a set: in its first n the word that has address a is not left
+pub record Ways (t u : List (List ℕ)) (a n : ℕ) : Type 0 where
+  pub fewer : Fewer t u
+  pub none : (w : ℕ) → w < n → tag_at u (set_of a) w ≡ a / 4 * 4 + 1 → ⊥
 
-pub four : (t u v x y : List (List ℕ)) (a : ℕ)
-    → Fewer t u × (tag_at u (set_of a) 0 ≡ a / 4 * 4 + 1 → ⊥)
-    → Fewer u v × (tag_at v (set_of a) 1 ≡ a / 4 * 4 + 1 → ⊥)
-    → Fewer v x × (tag_at x (set_of a) 2 ≡ a / 4 * 4 + 1 → ⊥)
-    → Fewer x y × (tag_at y (set_of a) 3 ≡ a / 4 * 4 + 1 → ⊥)
-    → Dropped t y a
+pub ways_none_yet : (t : List (List ℕ)) (a : ℕ) → Ways t t a 0
+ways_none_yet t a = record { fewer = fewer_same t; none = λ w h e. omega arith }
+
+ways_none : (t u v : List (List ℕ)) (a n : ℕ) → Ways t u a n → Fewer u v × (tag_at v (set_of a) n ≡ a / 4 * 4 + 1 → ⊥) → (w : ℕ) (x : Bool) → ltb w n ≡ x → w < n + 1
+    → tag_at v (set_of a) w ≡ a / 4 * 4 + 1 → ⊥
 unfolding Fewer
-four t u v x y a p q r f =
-    let s = set_of a in
-    let b = a / 4 * 4 in
-    record {
-      fewer = λ i w c e. p.0 i w c (q.0 i w c (r.0 i w c (f.0 i w c e)));
-      none =
-          way_cases (λ (w : ℕ). tag_at y (set_of a) w ≡ a / 4 * 4 + 1 → ⊥)
-          (λ e. p.1 (q.0 s 0 b (r.0 s 0 b (f.0 s 0 b e))))
-          (λ e. q.1 (r.0 s 1 b (f.0 s 1 b e)))
-          (λ e. r.1 (f.0 s 2 b e))
-          f.1;
-    }
+ways_none t u v a n p d w true e h f = p.none w (ltb-true w n e) (d.0 (set_of a) w (a / 4 * 4) f)
+ways_none t u v a n p d w false e h f =
+    let o : n ≤ w = ltb-false w n e in
+    let z : w ≡ n = omega arith in
+    d.1 (rw z at f)
+
+pub ways_more : (t u v : List (List ℕ)) (a n : ℕ) → Ways t u a n → Fewer u v × (tag_at v (set_of a) n ≡ a / 4 * 4 + 1 → ⊥) → Ways t v a (n + 1)
+ways_more t u v a n p d = record { fewer = fewer_yet t u v p.fewer d.0; none = λ w h f. ways_none t u v a n p d w (ltb w n) refl h f }
 
 -- a word that is dropped has no entry in its set
 gone : (t u : List (List ℕ)) (a : ℕ) → Dropped t u a → (s w b : ℕ) → w < 4 → set_of b ≡ s → tag_at u s w ≡ b + 1 → b ≡ a / 4 * 4 → ⊥
@@ -159,23 +151,10 @@ part_more t u v b n p d =
       none = λ k s w c h l q g f. part_none t u v b n p d k s w c (ltb k n) refl h l q g f;
     }
 
-part_none_yet : (t : List (List ℕ)) (b : ℕ) → Part t t b 0
+pub part_none_yet : (t : List (List ℕ)) (b : ℕ) → Part t t b 0
 unfolding Fewer
 part_none_yet t b = record { fewer = λ i w c e. e; none = λ k s w c h l q g f. omega arith }
 
-pub eight_dropped : (t0 t1 t2 t3 t4 t5 t6 t7 t8 : List (List ℕ)) (a : ℕ)
-    → Dropped t0 t1 (a / 32 * 32) → Dropped t1 t2 (a / 32 * 32 + 4) → Dropped t2 t3 (a / 32 * 32 + 8) → Dropped t3 t4 (a / 32 * 32 + 12)
-    → Dropped t4 t5 (a / 32 * 32 + 16) → Dropped t5 t6 (a / 32 * 32 + 20) → Dropped t6 t7 (a / 32 * 32 + 24) → Dropped t7 t8 (a / 32 * 32 + 28)
-    → Fewer t0 t8 × Without t8 (a / 32 * 32) 32
+pub eight_dropped : (t u : List (List ℕ)) (a : ℕ) → Part t u (a / 32) 8 → Fewer t u × Without u (a / 32 * 32) 32
 unfolding Without
-eight_dropped t0 t1 t2 t3 t4 t5 t6 t7 t8 a d0 d1 d2 d3 d4 d5 d6 d7 =
-    let b = a / 32 in
-    let p0 = part_more t0 t0 t1 b 0 (part_none_yet t0 b) (rw add-zero d0) in
-    let p1 = part_more t0 t1 t2 b 1 p0 d1 in
-    let p2 = part_more t0 t2 t3 b 2 p1 d2 in
-    let p3 = part_more t0 t3 t4 b 3 p2 d3 in
-    let p4 = part_more t0 t4 t5 b 4 p3 d4 in
-    let p5 = part_more t0 t5 t6 b 5 p4 d5 in
-    let p6 = part_more t0 t6 t7 b 6 p5 d6 in
-    let p7 = part_more t0 t7 t8 b 7 p6 d7 in
-    (p7.fewer, λ s w c l q z g. eight_words c a z (λ k h e. p7.none k s w c h l q g e))
+eight_dropped t u a p = (p.fewer, λ s w c l q z g. eight_words c a z (λ k h e. p.none k s w c h l q g e))

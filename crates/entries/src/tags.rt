@@ -1,6 +1,9 @@
 // The tags of kept words: 64 sets of 4. A tag is a word's address and 1, so that 0 is an empty entry. A word's set is its number's last six bits.
-ghost use Rattle.std.specs.Prelude.{◌≡◌, ◌+◌, ◌*◌, ◌/◌, ◌%◌, ◌^◌, ◌<◌, ◌≤◌, replicate};
+ghost use Rattle.std.specs.Prelude.{◌≡◌, ◌+◌, ◌*◌, ◌/◌, ◌%◌, ◌^◌, ◌<◌, ◌≤◌, replicate, IfSome};
 ghost use Rattle.entries.specs.Tags.{tag_at, set_of, Fewer, Dropped, Without};
+
+// The arrays are nested and by value, and a tag is a number, since the scope names that form and one comparison finds it.
+pub type Tags = [[u64; 4]; 64];
 
 pub fn set_of(at: u32) -> usize
     ensures value { result ≡ set_of at }
@@ -15,34 +18,22 @@ pub fn tag_of(at: u32) -> u64
     at as u64 + 1
 }
 
-pub fn no_tags() -> [[u64; 4]; 64]
+pub fn no_tags() -> Tags
     ensures { result ≡ replicate 64 (replicate 4 0) }
 {
     [[0; 4]; 64]
 }
 
-// The first way of a set in which a tag stands, or 4.
-pub fn way_of(tags: &[[u64; 4]; 64], set: usize, tag: u64) -> usize
+// The first way of a set in which a tag stands.
+pub fn way_of(tags: &Tags, set: usize, tag: u64) -> Option<usize>
     requires { set < 64 }
-    ensures { result < 4 → tag_at tags.now set result ≡ tag }
+    ensures { IfSome result (λ way. (way < 4) × (tag_at tags.now set way ≡ tag)) }
 {
-    if tags[set][0] == tag {
-        return 0;
-    }
-    if tags[set][1] == tag {
-        return 1;
-    }
-    if tags[set][2] == tag {
-        return 2;
-    }
-    if tags[set][3] == tag {
-        return 3;
-    }
-    4
+    tags[set].iter().position(|kept| *kept == tag)
 }
 
 // A way is emptied where the tag stands in it.
-fn drop_way(tags: &mut [[u64; 4]; 64], set: usize, way: usize, tag: u64)
+fn drop_way(tags: &mut Tags, set: usize, way: usize, tag: u64)
     requires { (set < 64) × ((way < 4) × (0 < tag)) }
     ensures { Fewer tags.old tags.new × (tag_at tags.new set way ≡ tag → ⊥) }
 {
@@ -52,20 +43,19 @@ fn drop_way(tags: &mut [[u64; 4]; 64], set: usize, way: usize, tag: u64)
 }
 
 // The entries of the word that has an address are dropped.
-fn drop_word(tags: &mut [[u64; 4]; 64], at: u64)
+fn drop_word(tags: &mut Tags, at: u64)
     requires { at < 2 ^ 33 }
     ensures { Dropped tags.old tags.new at }
 {
     let set = (at / 4 % 64) as usize;
     let tag = at / 4 * 4 + 1;
-    drop_way(tags, set, 0, tag);
-    drop_way(tags, set, 1, tag);
-    drop_way(tags, set, 2, tag);
-    drop_way(tags, set, 3, tag);
+    for way in 0..4 {
+        drop_way(tags, set, way, tag);
+    }
 }
 
 // Those of the words that have the n bytes at an address: two at most, as the board serves no others.
-pub fn drop_bytes(tags: &mut [[u64; 4]; 64], at: u32, n: usize)
+pub fn drop_bytes(tags: &mut Tags, at: u32, n: usize)
     requires { (0 < n) × (n ≤ 8) }
     ensures { Fewer tags.old tags.new × (at % 4 + n ≤ 8 → Without tags.new at n) }
 {
@@ -78,16 +68,12 @@ pub fn drop_bytes(tags: &mut [[u64; 4]; 64], at: u32, n: usize)
 }
 
 // Those of the block of 32 bytes that has an address.
-pub fn drop_block(tags: &mut [[u64; 4]; 64], at: u32)
+#[tactic(auto, using(crate::proofs::Drops::eight_dropped))]
+pub fn drop_block(tags: &mut Tags, at: u32)
     ensures { Fewer tags.old tags.new × Without tags.new (at / 32 * 32) 32 }
 {
     let base = (at / 32 * 32) as u64;
-    drop_word(tags, base);
-    drop_word(tags, base + 4);
-    drop_word(tags, base + 8);
-    drop_word(tags, base + 12);
-    drop_word(tags, base + 16);
-    drop_word(tags, base + 20);
-    drop_word(tags, base + 24);
-    drop_word(tags, base + 28);
+    for word in 0..8 {
+        drop_word(tags, base + 4 * word);
+    }
 }

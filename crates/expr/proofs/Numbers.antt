@@ -24,9 +24,9 @@ pub digits_stop : (s : List ℕ) (h : Bool) (v i : ℕ) → i < length s → is_
 unfolding digits_from
 digits_stop s h v i l e = rw (drop-cons s i 0 l, e)
 
-pub digits_end : (s : List ℕ) (h : Bool) (v i : ℕ) → length s ≤ i → digits_from h v i (drop i s) ≡ record { end = i; value = v }
+pub digits_end : (s : List ℕ) (h : Bool) (v i : ℕ) → length s ≡ i → digits_from h v i (drop i s) ≡ record { end = length s; value = v }
 unfolding digits_from
-digits_end s h v i l = rw (drop_of_length-le s l)
+digits_end s h v i e = let l : length s ≤ i = omega arith in rw (drop_of_length-le s l, e)
 
 -- the digits that a text starts with
 unfoldable pub taken : Bool → List ℕ → List ℕ

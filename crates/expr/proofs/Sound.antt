@@ -9,7 +9,8 @@ use lib.Dec.{eqb, ltb}
 use lib.ListN.{length}
 use Rattle.expr.specs.Grammar.{Expr, Prod, Fac, InE, InP, InF, in_only, in_sum, in_one, in_times, in_num, in_bracket, in_minus, pick, text_e, text_p, text_f, is_digit, all_digits, sign_byte}
 use Rattle.expr.specs.Scan.{AtE, AtP, AtF, used_e, used_p, used_f, expr_at, outer, St, done, Next, Out, step, step_closed, step_summed, step_factored, step_done, opened, finish, finish_e, finish_f, scan, onward, start}
-use Rattle.expr.proofs.Cases.{and_true, clash}
+use Rattle.expr.proofs.Cases.{clash}
+use Rattle.std.proofs.lemmas.Bool.{and_parts}
 
 -- what stands to the left of a place
 unfoldable mutual
@@ -167,13 +168,13 @@ digits_text k h d c ds = simp append_assoc
 all_more : (h : Bool) (ds : List ℕ) (c : ℕ) → all_digits h ds ≡ true → is_digit h c ≡ true → all_digits h (ds ++ (c ∷ [])) ≡ true
 unfolding all_digits
 all_more h [] c a e = rw e
-all_more h (d ∷ ds) c a e = rw (and_true (is_digit h d) (all_digits h ds) a).0 (all_more h ds c (and_true (is_digit h d) (all_digits h ds) a).1 e)
+all_more h (d ∷ ds) c a e = rw (and_parts (is_digit h d) (all_digits h ds) a).0 (all_more h ds c (and_parts (is_digit h d) (all_digits h ds) a).1 e)
 
 one_digit : (h : Bool) (c : ℕ) → is_digit h c ≡ true → all_digits h (c ∷ []) ≡ true
 unfolding all_digits
 one_digit h c e = rw e
 
-zero_digit : all_digits false (48 ∷ []) ≡ true
+pub zero_digit : all_digits false (48 ∷ []) ≡ true
 unfolding all_digits is_digit
 zero_digit = refl
 
@@ -320,6 +321,3 @@ scan_read (c ∷ cs) st x i = onward_read (step st c) (text_s st) c cs i (finish
 pub start_read_at : (s : List ℕ) (i : ℕ) → Read [] s i (scan start i s)
 unfolding text_s left_e
 start_read_at s i = scan_read s start (ok_want (ok_begins (ok_first ok_top))) i
-
-pub start_read : (s : List ℕ) → Read [] s 0 (scan start 0 s)
-start_read s = start_read_at s 0

@@ -1,368 +1,269 @@
 // Expressions of a line: read, and valued, by readers that call each other.
 #![tactic(auto)]
 
-ghost use Rattle.std.specs.Prelude.{◌≡◌, ℕ, ◌+◌, ◌-◌, ◌≤◌, ◌<◌, length, drop, true, false, ℤ, pos, negsuc, neg_ℤ};
-ghost use Rattle.std.proofs.Math.IntN.{sub_ℕ};
+ghost use Rattle.std.specs.Prelude.{◌≡◌, ◌≤◌, ◌<◌, length, drop, true, false, pos, Ok};
 ghost use Rattle.expr.specs.Grammar.{is_digit};
 ghost use Rattle.expr.specs.Evaluate.{in_range, negated, joined, multiplied, digit_of};
 ghost use Rattle.expr.specs.Digits.{digits_from, grown};
-ghost use Rattle.expr.specs.Reads.{byte_at, Small, Near, flipped, factor_reads, prod_reads, expr_reads, want_p, want_e, terms_reads, sum_reads, number_reads, decimal_at, hex_at};
+ghost use Rattle.expr.specs.Reads.{byte_at, Stands, factor_reads, prod_reads, expr_reads, want_p, want_e, terms_reads, sum_reads, number_reads, decimal_at, hex_at};
 
-// A value in -2^31 to 2^31 - 1, Minus(n) being -(n + 1); or the column of the first that is outside.
-#[derive(Clone, Copy)]
-pub enum Value {
-    Plus(u64),
-    Minus(u64),
-    Off(usize),
+// No line goes on at the column.
+#[derive(Clone, Copy, PartialEq, Eq, Debug)]
+pub struct Stuck {
+    pub column: usize,
 }
 
-// No line goes on at a column; or where what was read ends, and its value.
-#[derive(Clone, Copy)]
-pub enum Reading {
-    Bad(usize),
-    Read(usize, Value),
+// The first value outside -2^31 to 2^31 - 1 starts at the column.
+#[derive(Clone, Copy, PartialEq, Eq, Debug)]
+pub struct Off {
+    pub column: usize,
 }
 
+pub type Value = Result<i32, Off>;
+
+// What was read, and where it ends.
 #[derive(Clone, Copy)]
-pub struct Run {
+pub struct Read<T> {
     pub end: usize,
-    pub value: u64,
+    pub value: T,
 }
 
-// The byte at a column; 256 from the end on.
-pub fn byte_at(text: &[u8], at: usize) -> u64
-    ensures { (result ≡ byte_at text.now at) × (result < 256 → at < length text.now) }
+pub fn byte_at(text: &[u8], at: usize) -> Option<u8>
+    ensures { Stands text.now at result }
 {
-    if at < text.len() { wide(text[at]) } else { 256 }
-}
-
-fn wide(x: u8) -> u64
-    ensures { (result ≡ x) × (result < 256) }
-{
-    x as u64
+    text.get(at).copied()
 }
 
 fn in_range(at: usize, n: u64) -> Value
     ensures { result ≡ in_range at (pos n) }
 {
-    if n < 0x8000_0000 {
-        Value::Plus(n)
-    } else {
-        Value::Off(at)
+    i32::try_from(n).map_err(|_| Off { column: at })
+}
+
+// The value of a digit. No Option as of `to_digit`: `digit_of` and `grown`, which lines are valued by, have a number for each byte.
+#[tactic(auto, unfolding(crate::specs::Evaluate::digit_of))]
+fn digit(c: u8) -> u8
+    ensures { result ≡ digit_of c }
+{
+    match c {
+        ..=b'9' => c.saturating_sub(b'0'),
+        ..=b'F' => c.saturating_sub(b'A' - 10),
+        _ => c.saturating_sub(b'a' - 10),
     }
 }
 
-// -v: that of -2^31 is outside.
-fn negate(at: usize, v: Value) -> Value
-    requires { Small v }
-    ensures { result ≡ negated at v }
-{
-    match v {
-        Value::Off(k) => Value::Off(k),
-        Value::Plus(n) => minus(at, n),
-        Value::Minus(n) => in_range(at, n + 1),
-    }
-}
-
-// a - b, or 0.
-fn less(a: u64, b: u64) -> u64
-    ensures { result ≡ a - b }
-{
-    if a < b { 0 } else { a - b }
-}
-
-// The value of a digit: 16 and more, or 10 and more, where there is none.
-fn digit(c: u64) -> u64
-    ensures { (result ≡ digit_of c) × (result ≤ c) }
-{
-    if c <= 57 {
-        less(c, 48)
-    } else if c <= 70 {
-        less(c, 55)
-    } else {
-        less(c, 87)
-    }
-}
-
-pub fn is_digit(hex: bool, c: u64) -> bool
+// `hex` is the flag of the grammar (`is_digit`, `digits_value`); a type for the radix would have to be turned into it.
+#[tactic(auto, unfolding(crate::specs::Grammar::is_digit))]
+fn is_digit(hex: bool, c: u8) -> bool
     ensures { result ≡ is_digit hex c }
 {
-    ((48 <= c) & (c <= 57)) | (hex & (((97 <= c) & (c <= 102)) | ((65 <= c) & (c <= 70))))
+    c.is_ascii_digit() || hex && c.is_ascii_hexdigit()
 }
 
-fn times_base(hex: bool, v: u64, c: u64) -> u64
-    requires { c < 256 }
+#[tactic(auto, unfolding(crate::specs::Digits::grown))]
+fn times_base(hex: bool, v: u64, c: u8) -> u64
     ensures { result ≡ grown hex v c }
 {
-    let d = digit(c);
+    let base = if hex { 16 } else { 10 };
     if v < 0x8000_0000 {
-        if hex { v * 16 + d } else { v * 10 + d }
+        v * base + u64::from(digit(c))
     } else {
         v
     }
 }
 
-// The digits from a column on.
-pub fn digits(text: &[u8], at: usize, hex: bool) -> Run
+// The digits from a column on. By the column, which is answered: of `text[at..]` by `enumerate` the proof takes three answers more.
+#[tactic(auto, using(crate::proofs::Numbers::digits_more, crate::proofs::Numbers::digits_stop, crate::proofs::Numbers::digits_end))]
+pub fn digits(text: &[u8], at: usize, hex: bool) -> Read<u64>
     requires { at ≤ length text.now }
     ensures { result ≡ digits_from hex 0 at (drop at text.now) }
 {
-    let mut i = at;
-    let mut v: u64 = 0;
-    while i < text.len() {
-        let c = wide(text[i]);
+    let mut value: u64 = 0;
+    for i in at..text.len() {
+        let c = text[i];
         if !is_digit(hex, c) {
-            return Run { end: i, value: v };
+            return Read { end: i, value };
         }
-        v = times_base(hex, v, c);
-        i += 1;
+        value = times_base(hex, value, c);
     }
-    Run { end: i, value: v }
+    Read {
+        end: text.len(),
+        value,
+    }
 }
 
 // A decimal number, whose first digit stands at the column.
-fn decimal(text: &[u8], at: usize) -> Reading
+#[tactic(auto, using(crate::proofs::Literal::digit_inside, crate::proofs::Literal::decimal_reads))]
+fn decimal(text: &[u8], at: usize) -> Read<Value>
     requires { decimal_at text.now at }
-    ensures { number_reads text.now at result }
+    ensures { number_reads text.now at (Ok result) }
 {
-    let d = digits(text, at, false);
-    let v = in_range(at, d.value);
-    Reading::Read(d.end, v)
+    let Read { end, value } = digits(text, at, false);
+    Read {
+        end,
+        value: in_range(at, value),
+    }
 }
 
 // A number whose 0x stands at the column.
-fn hexadecimal(text: &[u8], at: usize) -> Reading
+#[tactic(auto, using(crate::proofs::Literal::hex_reads, crate::proofs::Literal::hex_bad, crate::proofs::Literal::hex_none))]
+fn hexadecimal(text: &[u8], at: usize) -> Result<Read<Value>, Stuck>
     requires { hex_at text.now at }
     ensures { number_reads text.now at result }
 {
-    let c = byte_at(text, at + 2);
-    if is_digit(true, c) {
-        let d = digits(text, at + 2, true);
-        let v = in_range(at, d.value);
-        Reading::Read(d.end, v)
-    } else {
-        Reading::Bad(at + 2)
+    match byte_at(text, at + 2) {
+        Some(c) if is_digit(true, c) => {
+            let Read { end, value } = digits(text, at + 2, true);
+            Ok(Read {
+                end,
+                value: in_range(at, value),
+            })
+        }
+        _ => Err(Stuck { column: at + 2 }),
     }
 }
 
 // A number, whose first digit stands at the column.
-fn number(text: &[u8], at: usize) -> Reading
+fn number(text: &[u8], at: usize) -> Result<Read<Value>, Stuck>
     requires { is_digit false (byte_at text.now at) ≡ true }
     ensures { number_reads text.now at result }
 {
-    let c = byte_at(text, at);
-    let x = byte_at(text, at + 1);
-    if (c == 48) & (x == 120) {
+    if byte_at(text, at) == Some(b'0') && byte_at(text, at + 1) == Some(b'x') {
         hexadecimal(text, at)
     } else {
-        decimal(text, at)
+        Ok(decimal(text, at))
     }
 }
 
+#[tactic(auto, using(crate::proofs::Steps::prod_facts, crate::proofs::Steps::expression_bad, crate::proofs::Steps::expression_sums))]
 #[cycle(expression_factor_product_sums_terms)]
-pub fn expression(text: &[u8], at: usize, room: usize) -> Reading
+pub fn expression(text: &[u8], at: usize, room: usize) -> Result<Read<Value>, Stuck>
     requires { at ≤ length text.now }
     ensures { expr_reads text.now at at room want_e result }
 {
-    let got = product(text, at, room);
-    match got {
-        Reading::Bad(k) => Reading::Bad(k),
-        Reading::Read(e, v) => sums(text, at, e, v, room),
-    }
+    let first = product(text, at, room)?;
+    sums(text, at, first, room)
 }
 
 // What follows a product: a sign and a product, again and again.
+#[tactic(auto, using(crate::proofs::Steps::prod_facts, crate::proofs::Steps::sums_bad, crate::proofs::Steps::sums_more, crate::proofs::Steps::sums_none, crate::proofs::Steps::a_sign))]
 #[cycle(expression_factor_product_sums_terms)]
-fn sums(text: &[u8], begin: usize, at: usize, left: Value, room: usize) -> Reading
-    requires { (at ≤ length text.now) × Small left }
-    ensures { sum_reads text.now begin at left room result }
+fn sums(text: &[u8], begin: usize, left: Read<Value>, room: usize) -> Result<Read<Value>, Stuck>
+    requires { left.end ≤ length text.now }
+    ensures { sum_reads text.now begin left.end left.value room result }
 {
-    let c = byte_at(text, at);
-    if (c == 43) | (c == 45) {
-        let got = product(text, at + 1, room);
-        match got {
-            Reading::Bad(k) => Reading::Bad(k),
-            Reading::Read(e, v) => {
-                let both = join(begin, c == 45, left, v);
-                sums(text, begin, e, both, room)
-            }
-        }
-    } else {
-        Reading::Read(at, left)
+    let Some(sign) = byte_at(text, left.end) else {
+        return Ok(left);
+    };
+    if sign != b'+' && sign != b'-' {
+        return Ok(left);
     }
+    let next = product(text, left.end + 1, room)?;
+    let both = Read {
+        end: next.end,
+        value: join(begin, sign == b'-', left.value, next.value),
+    };
+    sums(text, begin, both, room)
 }
 
+#[tactic(auto, using(crate::proofs::Steps::fac_facts, crate::proofs::Steps::product_bad, crate::proofs::Steps::product_terms))]
 #[cycle(expression_factor_product_sums_terms)]
-fn product(text: &[u8], at: usize, room: usize) -> Reading
+fn product(text: &[u8], at: usize, room: usize) -> Result<Read<Value>, Stuck>
     requires { at ≤ length text.now }
     ensures { prod_reads text.now at at room want_p result }
 {
-    let got = factor(text, at, room);
-    match got {
-        Reading::Bad(k) => Reading::Bad(k),
-        Reading::Read(e, v) => terms(text, at, e, v, room),
-    }
+    let first = factor(text, at, room)?;
+    terms(text, at, first, room)
 }
 
 // What follows a factor: * and a factor, again and again.
+#[tactic(auto, using(crate::proofs::Steps::fac_facts, crate::proofs::Steps::terms_bad, crate::proofs::Steps::terms_more, crate::proofs::Steps::terms_none, crate::proofs::Bytes::stands_is, crate::proofs::Bytes::stands_not))]
 #[cycle(expression_factor_product_sums_terms)]
-fn terms(text: &[u8], begin: usize, at: usize, left: Value, room: usize) -> Reading
-    requires { (at ≤ length text.now) × Small left }
-    ensures { terms_reads text.now begin at left room result }
+fn terms(text: &[u8], begin: usize, left: Read<Value>, room: usize) -> Result<Read<Value>, Stuck>
+    requires { left.end ≤ length text.now }
+    ensures { terms_reads text.now begin left.end left.value room result }
 {
-    let c = byte_at(text, at);
-    if c == 42 {
-        let got = factor(text, at + 1, room);
-        match got {
-            Reading::Bad(k) => Reading::Bad(k),
-            Reading::Read(e, v) => {
-                let both = multiply(begin, left, v);
-                terms(text, begin, e, both, room)
-            }
-        }
-    } else {
-        Reading::Read(at, left)
+    if byte_at(text, left.end) != Some(b'*') {
+        return Ok(left);
     }
+    let next = factor(text, left.end + 1, room)?;
+    let both = Read {
+        end: next.end,
+        value: multiply(begin, left.value, next.value),
+    };
+    terms(text, begin, both, room)
 }
 
+#[tactic(auto, using(crate::proofs::Steps::bracket_full, crate::proofs::Steps::minus_full, crate::proofs::Steps::bracket_bad, crate::proofs::Steps::bracket_closed, crate::proofs::Steps::bracket_open, crate::proofs::Steps::minus_bad, crate::proofs::Steps::minus_done, crate::proofs::Steps::no_factor, crate::proofs::Steps::nothing, crate::proofs::Steps::number_reads_lem, crate::proofs::Bytes::stands_is, crate::proofs::Bytes::stands_not))]
 #[cycle(expression_factor_product_sums_terms)]
-fn factor(text: &[u8], at: usize, room: usize) -> Reading
+fn factor(text: &[u8], at: usize, room: usize) -> Result<Read<Value>, Stuck>
     requires { at ≤ length text.now }
     ensures { factor_reads text.now at room result }
 {
-    let c = byte_at(text, at);
-    if c == 40 {
-        if room == 0 {
-            return Reading::Bad(at);
+    let Some(c) = byte_at(text, at) else {
+        return Err(Stuck { column: at });
+    };
+    match c {
+        b'(' => {
+            if room == 0 {
+                return Err(Stuck { column: at });
+            }
+            let inner = expression(text, at + 1, room - 1)?;
+            if byte_at(text, inner.end) != Some(b')') {
+                return Err(Stuck { column: inner.end });
+            }
+            Ok(Read {
+                end: inner.end + 1,
+                value: inner.value,
+            })
         }
-        let got = expression(text, at + 1, room - 1);
-        match got {
-            Reading::Bad(k) => Reading::Bad(k),
-            Reading::Read(e, v) => {
-                let close = byte_at(text, e);
-                if close == 41 {
-                    Reading::Read(e + 1, v)
-                } else {
-                    Reading::Bad(e)
-                }
+        b'-' => {
+            if room == 0 {
+                return Err(Stuck { column: at });
+            }
+            let inner = factor(text, at + 1, room - 1)?;
+            Ok(Read {
+                end: inner.end,
+                value: negate(at, inner.value),
+            })
+        }
+        _ => {
+            if is_digit(false, c) {
+                number(text, at)
+            } else {
+                Err(Stuck { column: at })
             }
         }
-    } else if c == 45 {
-        if room == 0 {
-            return Reading::Bad(at);
-        }
-        let got = factor(text, at + 1, room - 1);
-        match got {
-            Reading::Bad(k) => Reading::Bad(k),
-            Reading::Read(e, v) => {
-                let n = negate(at, v);
-                Reading::Read(e, n)
-            }
-        }
-    } else if is_digit(false, c) {
-        number(text, at)
-    } else {
-        Reading::Bad(at)
     }
 }
 
-// -(n + 1).
-fn below(at: usize, n: u64) -> Value
-    ensures { result ≡ in_range at (negsuc n) }
+// -v: that of -2^31 is outside.
+#[tactic(auto, using(crate::proofs::Range::in_range_or), unfolding(crate::specs::Evaluate::negated))]
+fn negate(at: usize, v: Value) -> Value
+    ensures { result ≡ negated at v }
 {
-    if n < 0x8000_0000 {
-        Value::Minus(n)
-    } else {
-        Value::Off(at)
-    }
-}
-
-// m - n.
-fn difference(at: usize, m: u64, n: u64) -> Value
-    ensures { result ≡ in_range at (sub_ℕ m n) }
-{
-    if m < n {
-        below(at, n - m - 1)
-    } else {
-        in_range(at, m - n)
-    }
-}
-
-// a + b, of values up to 2^31.
-fn add(at: usize, a: Value, b: Value) -> Value
-    requires { Near a × Near b }
-    ensures { result ≡ joined at false a b }
-{
-    match a {
-        Value::Off(k) => Value::Off(k),
-        Value::Plus(m) => match b {
-            Value::Off(k) => Value::Off(k),
-            Value::Plus(n) => in_range(at, m + n),
-            Value::Minus(n) => difference(at, m, n + 1),
-        },
-        Value::Minus(m) => match b {
-            Value::Off(k) => Value::Off(k),
-            Value::Plus(n) => difference(at, n, m + 1),
-            Value::Minus(n) => below(at, m + n + 1),
-        },
-    }
-}
-
-// -v, which may be 2^31.
-fn flip(v: Value) -> Value
-    requires { Small v }
-    ensures { result ≡ flipped v }
-{
-    match v {
-        Value::Off(k) => Value::Off(k),
-        Value::Plus(n) => if n == 0 {
-            Value::Plus(0)
-        } else {
-            Value::Minus(n - 1)
-        },
-        Value::Minus(n) => Value::Plus(n + 1),
-    }
+    v?.checked_neg().ok_or(Off { column: at })
 }
 
 // The sum or the difference of two values.
+#[tactic(auto, using(crate::proofs::Range::in_range_or), unfolding(crate::specs::Evaluate::joined, crate::specs::Evaluate::both))]
 fn join(at: usize, minus: bool, a: Value, b: Value) -> Value
-    requires { Small a × Small b }
     ensures { result ≡ joined at minus a b }
 {
-    if minus {
-        add(at, a, flip(b))
+    let a = a?;
+    let b = b?;
+    let both = if minus {
+        a.checked_sub(b)
     } else {
-        add(at, a, b)
-    }
-}
-
-// -p.
-fn minus(at: usize, p: u64) -> Value
-    ensures { result ≡ in_range at (neg_ℤ (pos p)) }
-{
-    if p == 0 {
-        Value::Plus(0)
-    } else {
-        below(at, p - 1)
-    }
+        a.checked_add(b)
+    };
+    both.ok_or(Off { column: at })
 }
 
 // The product of two values.
+#[tactic(auto, using(crate::proofs::Range::in_range_or), unfolding(crate::specs::Evaluate::multiplied, crate::specs::Evaluate::both))]
 fn multiply(at: usize, a: Value, b: Value) -> Value
-    requires { Small a × Small b }
     ensures { result ≡ multiplied at a b }
 {
-    match a {
-        Value::Off(k) => Value::Off(k),
-        Value::Plus(m) => match b {
-            Value::Off(k) => Value::Off(k),
-            Value::Plus(n) => in_range(at, m * n),
-            Value::Minus(n) => minus(at, m * (n + 1)),
-        },
-        Value::Minus(m) => match b {
-            Value::Off(k) => Value::Off(k),
-            Value::Plus(n) => minus(at, (m + 1) * n),
-            Value::Minus(n) => in_range(at, (m + 1) * (n + 1)),
-        },
-    }
+    a?.checked_mul(b?).ok_or(Off { column: at })
 }

@@ -7,7 +7,7 @@ use Rattle.insn.specs.Codes.{arith_imm_code, arith_code, arith_one_code, multipl
 use Rattle.insn.specs.Read.{arith_imm_at, arith_at, arith_one_at, multiply_at, multiply_imm_at, multiply_low_at, logic_imm_at, logic_at, logic_one_at, compare_imm_at, compare_at, rotate_imm_at, rotate_at, shift_at, srawi_at, rotate_double_at, load_at, load_indexed_at, store_at, store_indexed_at, load_double_at, store_double_at, stack_at, branch_at, branch_if_at, branch_to_at, trap_at, move_spr_at, move_reg_at, wrteei_at, rfi_at, sync_at, cache_at, primary, primary_rows, load_store, load_store_rows, added, added_rows, opcode30, rows30, arithmetic, arithmetic_rows, logical, logical_rows, storage, storage_rows, system, system_rows, opcode19, rows19, opcode4, rows4}
 use Rattle.insn.specs.declared.fields.Fields.{Fields}
 use Rattle.insn.specs.declared.instr.Instr.{Instr}
-use Rattle.insn.specs.declared.instr.Decoded.{Decoded}
+use Rattle.std.specs.Prelude.{Option, Some}
 use Rattle.insn.specs.declared.instr.ArithImmOp.{ArithImmOp}
 use Rattle.insn.specs.declared.instr.ArithOp.{ArithOp}
 use Rattle.insn.specs.declared.instr.ArithOneOp.{ArithOneOp}
@@ -26,8 +26,8 @@ use Rattle.insn.specs.declared.instr.Sign.{Sign}
 use Rattle.word.specs.declared.width.Width.{Width}
 
 -- a table has `at` for a word
-abbrev pub Reads : (Fields → Decoded) → (Fields → Instr) → Type 0
-Reads found at = (f : Fields) → found f ≡ Decoded.Insn (at f)
+abbrev pub Reads : (Fields → Option Instr) → (Fields → Instr) → Type 0
+Reads found at = (f : Fields) → found f ≡ Some (at f)
 
 -- a primary opcode
 abbrev pub Primary : ℕ → (Fields → Instr) → Type 0
@@ -38,10 +38,10 @@ abbrev pub XO31 : ℕ → (Fields → Instr) → Type 0
 XO31 xo at = ((x : ℕ) → Reads (arithmetic x xo) at) × (xo < 512)
 
 -- an extended opcode of an X form, and the tables of those under primary opcodes 31, 19 and 4
-abbrev pub Extended : (ℕ → Fields → Decoded) → ℕ → (Fields → Instr) → Type 0
+abbrev pub Extended : (ℕ → Fields → Option Instr) → ℕ → (Fields → Instr) → Type 0
 Extended table x at = Reads (table x) at × (x < 1024)
 
-abbrev pub opcode31 : ℕ → Fields → Decoded
+abbrev pub opcode31 : ℕ → Fields → Option Instr
 opcode31 x = arithmetic x (x % 512)
 
 abbrev pub X31 : ℕ → (Fields → Instr) → Type 0

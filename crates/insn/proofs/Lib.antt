@@ -1,5 +1,4 @@
 -- What the proofs of several functions share, and the theorems on reading and writing.
-pub mod Laws
 pub mod Parts
 pub mod Hits
 pub mod Round

@@ -251,3 +251,29 @@ b_whole w h o = last (then _ _ _ (bit_part w 31) (then _ _ _ (bit_part w 30) (th
 pub i_whole : (w : ℕ) → w < 2 ^ 32 → (fields_of w).op ≡ 18 → word_i (fields_of w).li (fields_of w).aa (fields_of w).rc ≡ w
 unfolding fields_of
 i_whole w h o = last (then _ _ _ (bit_part w 31) (then _ _ _ (bit_part w 30) (then _ _ _ (part w 24 2) (first h o))))
+
+-- the same with the opcodes that a form has as numbers, which is how the check writes them
+module _ (w : ℕ) (h : w < 2 ^ 32) where
+  pub x31_whole : {x : ℕ} → ((fields_of w).op ≡ 31) × ((fields_of w).x ≡ x) → word_x 31 (fields_of w).rt (fields_of w).ra (fields_of w).rb x (fields_of w).rc ≡ w
+  x31_whole = x_whole w h
+
+  pub x19_whole : {x : ℕ} → ((fields_of w).op ≡ 19) × ((fields_of w).x ≡ x) → word_x 19 (fields_of w).rt (fields_of w).ra (fields_of w).rb x (fields_of w).rc ≡ w
+  x19_whole = x_whole w h
+
+  pub x4_whole : {x : ℕ} → ((fields_of w).op ≡ 4) × ((fields_of w).x ≡ x) → word_x 4 (fields_of w).rt (fields_of w).ra (fields_of w).rb x (fields_of w).rc ≡ w
+  x4_whole = x_whole w h
+
+  pub srawi_whole : ((fields_of w).op ≡ 31) × ((fields_of w).x ≡ 824) → word_x 31 (fields_of w).rt (fields_of w).ra (fields_of w).rb 824 (fields_of w).rc ≡ w
+  srawi_whole = x_whole w h
+
+  pub trap_whole : ((fields_of w).op ≡ 31) × ((fields_of w).x ≡ 4) → word_x 31 (fields_of w).rt (fields_of w).ra (fields_of w).rb 4 (fields_of w).rc ≡ w
+  trap_whole = x_whole w h
+
+  pub multiply_imm_whole : (fields_of w).op ≡ 7 → word_d 7 (fields_of w).rt (fields_of w).ra (fields_of w).imm ≡ w
+  multiply_imm_whole = d_whole w h
+
+  pub multiply_low_whole : ((fields_of w).op ≡ 31) × ((fields_of w).xo ≡ 235) → word_xo (fields_of w).rt (fields_of w).ra (fields_of w).rb (fields_of w).oe 235 (fields_of w).rc ≡ w
+  multiply_low_whole = xo_whole w h
+
+  pub rotate_whole : (fields_of w).op ≡ 23 → word_m 23 (fields_of w).rt (fields_of w).ra (fields_of w).rb (fields_of w).mb (fields_of w).me (fields_of w).rc ≡ w
+  rotate_whole = m_whole w h

@@ -1,6 +1,6 @@
 -- What is written is read back, what is read is written back, and an illegal word is no valid instruction's: on a 42X, and on either core. Assumes nothing.
 use mathlib.Core.Path.{◌≡◌, ◌∙◌, refl, sym, ap}
-use mathlib.Core.Bool.{Bool, true, false, cond, not, ◌&&◌, ◌||◌}
+use mathlib.Core.Bool.{Bool, true, false, not, ◌&&◌, ◌||◌}
 use mathlib.Core.List.{List, [], ◌∷◌}
 use Prim.Native.Nat.{ℕ, ◌+◌, ◌%◌, ◌<◌, ◌≤◌}
 use native.Mathlib.Omega.{arith}
@@ -19,7 +19,8 @@ use Rattle.insn.specs.Write.{word_of}
 use Rattle.insn.specs.Read.{primary, primary_rows, load_store, load_store_rows, added, added_rows, arithmetic, opcode19, opcode4, opcode30, guess_of, settled, decode_of, kept_on, decode_on}
 use Rattle.insn.specs.declared.fields.Fields.{Fields}
 use Rattle.insn.specs.declared.instr.Instr.{Instr}
-use Rattle.insn.specs.declared.instr.Decoded.{Decoded}
+use Rattle.std.specs.Prelude.{Option, Some, None}
+use Rattle.std.specs.Bool.{then_some}
 use Rattle.insn.specs.declared.instr.Arithmetic.{Arithmetic}
 use Rattle.insn.specs.declared.instr.Logical.{Logical}
 use Rattle.insn.specs.declared.instr.Compare.{Compare}
@@ -35,18 +36,18 @@ use Rattle.insn.proofs.Parts.{DParts, d_parts, DDParts, dd_parts, XParts, x_part
 use Rattle.insn.proofs.Hits.{Reads, Primary, XO31, Extended, opcode31, X31, hit_arith_imm, hit_arith, hit_arith_one, hit_multiply, hit_multiply_imm, hit_multiply_low, hit_logic_imm, hit_logic, hit_logic_one, hit_compare_imm, hit_compare, hit_rotate_imm, hit_rotate, hit_shift, hit_srawi, hit_rotate_double, hit_load, hit_load_indexed, hit_store, hit_store_indexed, hit_load_double, hit_store_double, hit_stack, hit_branch, hit_branch_if, hit_branch_to, hit_trap, hit_spr, hit_move, hit_wrteei, hit_rfi, hit_sync, hit_cache}
 
 -- a word that reads as an instruction is what that instruction is written as, and the instruction is valid
-settled_is : (w : ℕ) (d : Decoded) (i : Instr) → settled w d ≡ Decoded.Insn i → (valid_of i ≡ true) × (word_of i ≡ w)
-settled_is w Decoded.Illegal i e = let z : ◌≡◌ {A = ℕ} 0 1 = cc in absurd (omega arith)
-settled_is w (Decoded.Insn j) i e = go (valid_of j && eqb (word_of j) w) refl e
+settled_is : (w : ℕ) (d : Option Instr) (i : Instr) → settled w d ≡ Some i → (valid_of i ≡ true) × (word_of i ≡ w)
+settled_is w None i e = let z : ◌≡◌ {A = ℕ} 0 1 = cc in absurd (omega arith)
+settled_is w (Some j) i e = go (valid_of j && eqb (word_of j) w) refl e
   where
-    go : (b : Bool) → (valid_of j && eqb (word_of j) w) ≡ b → cond b (Decoded.Insn j) Decoded.Illegal ≡ Decoded.Insn i → (valid_of i ≡ true) × (word_of i ≡ w)
+    go : (b : Bool) → (valid_of j && eqb (word_of j) w) ≡ b → then_some b j ≡ Some i → (valid_of i ≡ true) × (word_of i ≡ w)
     go true t h =
         let s : j ≡ i = cc in
         let p = and_true (valid_of j) (eqb (word_of j) w) t in
         (ap valid_of (sym s) ∙ p.0, ap word_of (sym s) ∙ eqb-true (word_of j) w p.1)
     go false t h = let z : ◌≡◌ {A = ℕ} 0 1 = cc in absurd (omega arith)
 
-pub read_written : (w : ℕ) (i : Instr) → decode_of w ≡ Decoded.Insn i → (valid_of i ≡ true) × (word_of i ≡ w)
+pub read_written : (w : ℕ) (i : Instr) → decode_of w ≡ Some i → (valid_of i ≡ true) × (word_of i ≡ w)
 unfolding decode_of
 read_written w i e = settled_is w (guess_of (fields_of w)) i e
 
@@ -71,7 +72,7 @@ pairs_are n =
       | no k ↦ agree_at (λ n m. is_vdr n) (λ n m. leb n 9 || leb 28 n && leb n 31) 32 1 tt n 0 (lt_of_not-le k) (lit< tt)
     ]
 
-spr_lt : (n : ℕ) → is_spr n ≡ true → n < 1024
+pub spr_lt : (n : ℕ) → is_spr n ≡ true → n < 1024
 unfolding is_spr
 spr_lt = below is_spr 1024 (λ n h. simp (far 1024))
 
@@ -79,7 +80,7 @@ spr_ok_lt : (op : SprOp) (n : ℕ) → spr_ok op n ≡ true → n < 1024
 spr_ok_lt SprOp.Mfspr n v = spr_lt n v
 spr_ok_lt SprOp.Mtspr n v = spr_lt n (and_true (is_spr n) (not (read_only n)) v).0
 
-to_lt : (n : ℕ) → is_to n ≡ true → n < 32
+pub to_lt : (n : ℕ) → is_to n ≡ true → n < 32
 to_lt = below is_to 32 (λ n h. simp (far 32))
 
 hint_lt : (op : CacheOp) (n : ℕ) → hint_ok op n ≡ true → n < 32
@@ -113,7 +114,7 @@ three : (a b c : ℕ) → three_regs a b c ≡ true → (a < 32) × (b < 32) × 
 three a b c v = let h = ands (reg_of a) (reg_of b ∷ reg_of c ∷ []) v in omega facts
 
 -- the words of a primary opcode are read by a table of extended ones
-abbrev Leads : ℕ → (ℕ → Fields → Decoded) → Type 0
+abbrev Leads : ℕ → (ℕ → Fields → Option Instr) → Type 0
 Leads op table = (op < 64) × ((f : Fields) (x : ℕ) → f.op ≡ op → f.x ≡ x → f.xo ≡ x % 512 → guess_of f ≡ table x f)
 
 to_31 : (f : Fields) (xo : ℕ) → f.op ≡ 31 → f.xo ≡ xo → guess_of f ≡ arithmetic f.x xo f
@@ -139,66 +140,66 @@ to_30 f e = ap (λ (n : ℕ). primary n f) e
 abbrev Makes : (Fields → Type 0) → (Fields → Instr) → Instr → Type 0
 Makes Parts at i = (f : Fields) → Parts f → at f ≡ i
 
-by_d : {op rt ra imm : ℕ} {at : Fields → Instr} {i : Instr} → Primary op at → (rt < 32) × (ra < 32) × (imm < 65536) → Makes (DParts op rt ra imm) at i → guess_of (fields_of (word_d op rt ra imm)) ≡ Decoded.Insn i
+by_d : {op rt ra imm : ℕ} {at : Fields → Instr} {i : Instr} → Primary op at → (rt < 32) × (ra < 32) × (imm < 65536) → Makes (DParts op rt ra imm) at i → guess_of (fields_of (word_d op rt ra imm)) ≡ Some i
 by_d {op} {rt} {ra} {imm} hit h same =
     let f = fields_of (word_d op rt ra imm) in
     let p : DParts op rt ra imm f = d_parts hit.1 h in
-    ap (λ (n : ℕ). primary n f) p.op_is ∙ hit.0 f ∙ ap Decoded.Insn (same f p)
+    ap (λ (n : ℕ). primary n f) p.op_is ∙ hit.0 f ∙ ap Some (same f p)
 
-by_x : {op rt ra rb x : ℕ} {table : ℕ → Fields → Decoded} {at : Fields → Instr} {i : Instr} → Leads op table → (rc : Bool) → Extended table x at → (rt < 32) × (ra < 32) × (rb < 32) → Makes (XParts op rt ra rb x rc) at i → guess_of (fields_of (word_x op rt ra rb x rc)) ≡ Decoded.Insn i
+by_x : {op rt ra rb x : ℕ} {table : ℕ → Fields → Option Instr} {at : Fields → Instr} {i : Instr} → Leads op table → (rc : Bool) → Extended table x at → (rt < 32) × (ra < 32) × (rb < 32) → Makes (XParts op rt ra rb x rc) at i → guess_of (fields_of (word_x op rt ra rb x rc)) ≡ Some i
 by_x {op} {rt} {ra} {rb} {x} leads rc hit h same =
     let f = fields_of (word_x op rt ra rb x rc) in
     let p : XParts op rt ra rb x rc f = x_parts rc leads.0 hit.1 h in
-    leads.1 f x p.op_is p.x_is p.xo_is ∙ hit.0 f ∙ ap Decoded.Insn (same f p)
+    leads.1 f x p.op_is p.x_is p.xo_is ∙ hit.0 f ∙ ap Some (same f p)
 
-by_xo : {rt ra rb xo : ℕ} {at : Fields → Instr} {i : Instr} (oe rc : Bool) → XO31 xo at → (rt < 32) × (ra < 32) × (rb < 32) → Makes (XOParts rt ra rb oe xo rc) at i → guess_of (fields_of (word_xo rt ra rb oe xo rc)) ≡ Decoded.Insn i
+by_xo : {rt ra rb xo : ℕ} {at : Fields → Instr} {i : Instr} (oe rc : Bool) → XO31 xo at → (rt < 32) × (ra < 32) × (rb < 32) → Makes (XOParts rt ra rb oe xo rc) at i → guess_of (fields_of (word_xo rt ra rb oe xo rc)) ≡ Some i
 by_xo {rt} {ra} {rb} {xo} oe rc hit h same =
     let f = fields_of (word_xo rt ra rb oe xo rc) in
     let p : XOParts rt ra rb oe xo rc f = xo_parts oe rc hit.1 h in
-    to_31 f xo p.op_is p.xo_is ∙ hit.0 f.x f ∙ ap Decoded.Insn (same f p)
+    to_31 f xo p.op_is p.xo_is ∙ hit.0 f.x f ∙ ap Some (same f p)
 
-by_xfx : {rt x : ℕ} {at : Fields → Instr} {i : Instr} (fxm : ℕ) → X31 x at → rt < 32 → Makes (XFXParts rt x) at i → guess_of (fields_of (word_xfx rt fxm x)) ≡ Decoded.Insn i
+by_xfx : {rt x : ℕ} {at : Fields → Instr} {i : Instr} (fxm : ℕ) → X31 x at → rt < 32 → Makes (XFXParts rt x) at i → guess_of (fields_of (word_xfx rt fxm x)) ≡ Some i
 by_xfx {rt} {x} fxm hit h same =
     let f = fields_of (word_xfx rt fxm x) in
     let p : XFXParts rt x f = xfx_parts fxm hit.1 h in
-    of_31.1 f x p.op_is p.x_is p.xo_is ∙ hit.0 f ∙ ap Decoded.Insn (same f p)
+    of_31.1 f x p.op_is p.x_is p.xo_is ∙ hit.0 f ∙ ap Some (same f p)
 
-by_e : {x : ℕ} {at : Fields → Instr} {i : Instr} (e : Bool) → X31 x at → Makes (EParts e x) at i → guess_of (fields_of (word_e e x)) ≡ Decoded.Insn i
+by_e : {x : ℕ} {at : Fields → Instr} {i : Instr} (e : Bool) → X31 x at → Makes (EParts e x) at i → guess_of (fields_of (word_e e x)) ≡ Some i
 by_e {x} e hit same =
     let f = fields_of (word_e e x) in
     let p : EParts e x f = e_parts e hit.1 in
-    of_31.1 f x p.op_is p.x_is p.xo_is ∙ hit.0 f ∙ ap Decoded.Insn (same f p)
+    of_31.1 f x p.op_is p.x_is p.xo_is ∙ hit.0 f ∙ ap Some (same f p)
 
-by_dd : {op rt ra dd : ℕ} {at : Fields → Instr} {i : Instr} → Primary op at → (rt < 32) × (ra < 32) × (dd < 8192) → Makes (DDParts op rt ra dd) at i → guess_of (fields_of (word_dd op rt ra dd)) ≡ Decoded.Insn i
+by_dd : {op rt ra dd : ℕ} {at : Fields → Instr} {i : Instr} → Primary op at → (rt < 32) × (ra < 32) × (dd < 8192) → Makes (DDParts op rt ra dd) at i → guess_of (fields_of (word_dd op rt ra dd)) ≡ Some i
 by_dd {op} {rt} {ra} {dd} hit h same =
     let f = fields_of (word_dd op rt ra dd) in
     let p : DDParts op rt ra dd f = dd_parts hit.1 h in
-    ap (λ (n : ℕ). primary n f) p.op_is ∙ hit.0 f ∙ ap Decoded.Insn (same f p)
+    ap (λ (n : ℕ). primary n f) p.op_is ∙ hit.0 f ∙ ap Some (same f p)
 
-by_m : {op rs ra rb mb me : ℕ} {at : Fields → Instr} {i : Instr} (rc : Bool) → Primary op at → (rs < 32) × (ra < 32) × (rb < 32) × (mb < 32) × (me < 32) → Makes (MParts op rs ra rb mb me rc) at i → guess_of (fields_of (word_m op rs ra rb mb me rc)) ≡ Decoded.Insn i
+by_m : {op rs ra rb mb me : ℕ} {at : Fields → Instr} {i : Instr} (rc : Bool) → Primary op at → (rs < 32) × (ra < 32) × (rb < 32) × (mb < 32) × (me < 32) → Makes (MParts op rs ra rb mb me rc) at i → guess_of (fields_of (word_m op rs ra rb mb me rc)) ≡ Some i
 by_m {op} {rs} {ra} {rb} {mb} {me} rc hit h same =
     let f = fields_of (word_m op rs ra rb mb me rc) in
     let p : MParts op rs ra rb mb me rc f = m_parts rc hit.1 h in
-    ap (λ (n : ℕ). primary n f) p.op_is ∙ hit.0 f ∙ ap Decoded.Insn (same f p)
+    ap (λ (n : ℕ). primary n f) p.op_is ∙ hit.0 f ∙ ap Some (same f p)
 
 by_md : {ds da sh mb mb5 sh5 : ℕ} (op : RotateDoubleOp) {at : Fields → Instr} {i : Instr} (rc : Bool) → Reads (opcode30 (rotate_double_code op)) at × (rotate_double_code op < 8) → (ds < 32) × (da < 32) × (sh < 32) × (mb < 32) × (mb5 < 2) × (sh5 < 2)
-    → Makes (MDParts ds da sh mb mb5 (rotate_double_code op) sh5 rc) at i → guess_of (fields_of (word_md ds da sh mb mb5 (rotate_double_code op) sh5 rc)) ≡ Decoded.Insn i
+    → Makes (MDParts ds da sh mb mb5 (rotate_double_code op) sh5 rc) at i → guess_of (fields_of (word_md ds da sh mb mb5 (rotate_double_code op) sh5 rc)) ≡ Some i
 by_md {ds} {da} {sh} {mb} {mb5} {sh5} op rc hit h same =
     let f = fields_of (word_md ds da sh mb mb5 (rotate_double_code op) sh5 rc) in
     let p : MDParts ds da sh mb mb5 (rotate_double_code op) sh5 rc f = md_parts rc hit.1 h in
-    to_30 f p.op_is ∙ ap (λ (n : ℕ). opcode30 n f) p.md_is ∙ hit.0 f ∙ ap Decoded.Insn (same f p)
+    to_30 f p.op_is ∙ ap (λ (n : ℕ). opcode30 n f) p.md_is ∙ hit.0 f ∙ ap Some (same f p)
 
-by_b : {bo bi bd : ℕ} {at : Fields → Instr} {i : Instr} (aa lk : Bool) → Primary 16 at → (bo < 32) × (bi < 32) × (bd < 16384) → Makes (BParts bo bi bd aa lk) at i → guess_of (fields_of (word_b bo bi bd aa lk)) ≡ Decoded.Insn i
+by_b : {bo bi bd : ℕ} {at : Fields → Instr} {i : Instr} (aa lk : Bool) → Primary 16 at → (bo < 32) × (bi < 32) × (bd < 16384) → Makes (BParts bo bi bd aa lk) at i → guess_of (fields_of (word_b bo bi bd aa lk)) ≡ Some i
 by_b {bo} {bi} {bd} aa lk hit h same =
     let f = fields_of (word_b bo bi bd aa lk) in
     let p : BParts bo bi bd aa lk f = b_parts aa lk h in
-    ap (λ (n : ℕ). primary n f) p.op_is ∙ hit.0 f ∙ ap Decoded.Insn (same f p)
+    ap (λ (n : ℕ). primary n f) p.op_is ∙ hit.0 f ∙ ap Some (same f p)
 
-by_i : {li : ℕ} {at : Fields → Instr} {i : Instr} (aa lk : Bool) → Primary 18 at → li < 16777216 → Makes (IParts li aa lk) at i → guess_of (fields_of (word_i li aa lk)) ≡ Decoded.Insn i
+by_i : {li : ℕ} {at : Fields → Instr} {i : Instr} (aa lk : Bool) → Primary 18 at → li < 16777216 → Makes (IParts li aa lk) at i → guess_of (fields_of (word_i li aa lk)) ≡ Some i
 by_i {li} aa lk hit h same =
     let f = fields_of (word_i li aa lk) in
     let p : IParts li aa lk f = i_parts aa lk h in
-    ap (λ (n : ℕ). primary n f) p.op_is ∙ hit.0 f ∙ ap Decoded.Insn (same f p)
+    ap (λ (n : ℕ). primary n f) p.op_is ∙ hit.0 f ∙ ap Some (same f p)
 
 -- the fields of a tw
 trap_lt : (to ra rb : ℕ) (tg : Bool) → (mark_form to ra rb tg || trap_form to ra rb) ≡ true → (to < 32) × (ra < 32) × (rb < 32)
@@ -212,7 +213,7 @@ trap_lt to ra rb tg v = go (mark_form to ra rb tg) refl v
         omega facts
 
 -- what a valid instruction is written as suggests that instruction
-guess_written : (i : Instr) → valid_of i ≡ true → guess_of (fields_of (word_of i)) ≡ Decoded.Insn i
+guess_written : (i : Instr) → valid_of i ≡ true → guess_of (fields_of (word_of i)) ≡ Some i
 guess_written (Instr.Arithmetic (Arithmetic.Immediate op rt ra si)) v =
     let h = and_true (fits 16 si) (two_regs rt ra) v in
     let r = two rt ra h.1 in
@@ -302,27 +303,27 @@ guess_written (Instr.Cache op hint ra rb) v =
     let r = two ra rb h.1 in
     by_x of_31 false (hit_cache op) (omega facts) (λ f p. rw (p.rt_is, p.ra_is, p.rb_is))
 
-pub written_read : (i : Instr) → valid_of i ≡ true → decode_of (word_of i) ≡ Decoded.Insn i
+pub written_read : (i : Instr) → valid_of i ≡ true → decode_of (word_of i) ≡ Some i
 unfolding decode_of
 written_read i v = rw (guess_written i v, v, eq-eqb (word_of i) (word_of i) refl)
 
 -- on either core: what it keeps of what a 42X reads
-kept_is : (p : Profile) (d : Decoded) (i : Instr) → kept_on p d ≡ Decoded.Insn i → (has p i ≡ true) × (d ≡ Decoded.Insn i)
-kept_is p Decoded.Illegal i e = let z : ◌≡◌ {A = ℕ} 0 1 = cc in absurd (omega arith)
-kept_is p (Decoded.Insn j) i e = go (has p j) refl e
+kept_is : (p : Profile) (d : Option Instr) (i : Instr) → kept_on p d ≡ Some i → (has p i ≡ true) × (d ≡ Some i)
+kept_is p None i e = let z : ◌≡◌ {A = ℕ} 0 1 = cc in absurd (omega arith)
+kept_is p (Some j) i e = go (has p j) refl e
   where
-    go : (b : Bool) → has p j ≡ b → cond b (Decoded.Insn j) Decoded.Illegal ≡ Decoded.Insn i → (has p i ≡ true) × (Decoded.Insn j ≡ Decoded.Insn i)
+    go : (b : Bool) → has p j ≡ b → then_some b j ≡ Some i → (has p i ≡ true) × (Some j ≡ Some i)
     go true t h = let s : j ≡ i = cc in (ap (has p) (sym s) ∙ t, h)
     go false t h = let z : ◌≡◌ {A = ℕ} 0 1 = cc in absurd (omega arith)
 
-pub read_written_on : (p : Profile) (w : ℕ) (i : Instr) → decode_on p w ≡ Decoded.Insn i → (valid_on p i ≡ true) × (word_of i ≡ w)
+pub read_written_on : (p : Profile) (w : ℕ) (i : Instr) → decode_on p w ≡ Some i → (valid_on p i ≡ true) × (word_of i ≡ w)
 unfolding decode_on
 read_written_on p w i e =
     let k = kept_is p (decode_of w) i e in
     let h = read_written w i k.1 in
     (rw (k.0, h.0), h.1)
 
-pub written_read_on : (p : Profile) (i : Instr) → valid_on p i ≡ true → decode_on p (word_of i) ≡ Decoded.Insn i
+pub written_read_on : (p : Profile) (i : Instr) → valid_on p i ≡ true → decode_on p (word_of i) ≡ Some i
 unfolding decode_on
 written_read_on p i v =
     let h = and_true (has p i) (valid_of i) v in
@@ -331,24 +332,24 @@ written_read_on p i v =
 -- two valid instructions that are written as one word are the same
 pub written_once : (p : Profile) (i j : Instr) → valid_on p i ≡ true → valid_on p j ≡ true → word_of i ≡ word_of j → i ≡ j
 written_once p i j v u e =
-    let d : Decoded.Insn i ≡ Decoded.Insn j = sym (written_read_on p i v) ∙ ap (decode_on p) e ∙ written_read_on p j u in
+    let d : Some i ≡ Some j = sym (written_read_on p i v) ∙ ap (decode_on p) e ∙ written_read_on p j u in
     cc
 
 -- a word is illegal exactly where no valid instruction is written as it
-pub illegal_is : (p : Profile) (w : ℕ) → decode_on p w ≡ Decoded.Illegal → (i : Instr) → valid_on p i ≡ true → word_of i ≡ w → ⊥
+pub illegal_is : (p : Profile) (w : ℕ) → decode_on p w ≡ None → (i : Instr) → valid_on p i ≡ true → word_of i ≡ w → ⊥
 illegal_is p w e i v q =
-    let d : Decoded.Insn i ≡ Decoded.Illegal = sym (written_read_on p i v) ∙ ap (decode_on p) q ∙ e in
+    let d : Some i ≡ None = sym (written_read_on p i v) ∙ ap (decode_on p) q ∙ e in
     let z : ◌≡◌ {A = ℕ} 0 1 = cc in
     omega arith
 
-pub illegal_if : (p : Profile) (w : ℕ) → ((i : Instr) → valid_on p i ≡ true → word_of i ≡ w → ⊥) → decode_on p w ≡ Decoded.Illegal
+pub illegal_if : (p : Profile) (w : ℕ) → ((i : Instr) → valid_on p i ≡ true → word_of i ≡ w → ⊥) → decode_on p w ≡ None
 illegal_if p w none = go (decode_on p w) refl
   where
-    go : (d : Decoded) → decode_on p w ≡ d → d ≡ Decoded.Illegal
-    go (Decoded.Insn i) e = let h = read_written_on p w i e in absurd (none i h.0 h.1)
-    go Decoded.Illegal e = refl
+    go : (d : Option Instr) → decode_on p w ≡ d → d ≡ None
+    go (Some i) e = let h = read_written_on p w i e in absurd (none i h.0 h.1)
+    go None e = refl
 
 -- what a 42 reads, a 42X reads as the same
-pub read_on_42x : (w : ℕ) (i : Instr) → decode_on Profile.Ppe42 w ≡ Decoded.Insn i → decode_on Profile.Ppe42x w ≡ Decoded.Insn i
+pub read_on_42x : (w : ℕ) (i : Instr) → decode_on Profile.Ppe42 w ≡ Some i → decode_on Profile.Ppe42x w ≡ Some i
 unfolding decode_on
 read_on_42x w i e = rw (kept_is Profile.Ppe42 (decode_of w) i e).1

@@ -1,6 +1,7 @@
 -- What a word reads as on a 42X, and on either core: the instruction that its opcodes and parts suggest, if that is valid and is written as this very word.
 -- So only `valid_of` and `word_of` have to be believed: a slip in a table below would refute `written_read`.
-use Rattle.std.specs.Prelude.{ℕ, Bool, true, false, cond, ◌&&◌, List, [], ◌∷◌, ◌++◌, eqb}
+use Rattle.std.specs.Prelude.{ℕ, Bool, true, false, cond, ◌&&◌, List, [], ◌∷◌, ◌++◌, eqb, Option, Some, None}
+use Rattle.std.specs.Bool.{then_some}
 use Rattle.insn.specs.Fields.{fields_of}
 use Rattle.insn.specs.Codes.{arith_imm_code, arith_code, arith_one_code, multiply_code, logic_imm_code, logic_code, logic_one_code, compare_imm_code, compare_code, rotate_code, shift_code, load_code, store_code, load_indexed_code, store_indexed_code, load_double_code, store_double_code, stack_code, rotate_double_code, branch_code, spr_code, move_code, cache_code}
 use Rattle.insn.specs.Valid.{valid_of}
@@ -9,7 +10,6 @@ use Rattle.insn.specs.Write.{word_of}
 use Rattle.insn.specs.declared.profile.Profile.{Profile}
 use Rattle.insn.specs.declared.fields.Fields.{Fields}
 use Rattle.insn.specs.declared.instr.Instr.{Instr}
-use Rattle.insn.specs.declared.instr.Decoded.{Decoded}
 use Rattle.insn.specs.declared.instr.Arithmetic.{Arithmetic}
 use Rattle.insn.specs.declared.instr.Logical.{Logical}
 use Rattle.insn.specs.declared.instr.Compare.{Compare}
@@ -152,22 +152,22 @@ cache_at op f = Instr.Cache op f.rt f.ra f.rb
 
 -- an opcode, and what the words that have it suggest
 abbrev pub Row : Type 0
-Row = ℕ × (Fields → Decoded)
+Row = ℕ × (Fields → Option Instr)
 
 abbrev pub row : ℕ → (Fields → Instr) → Row
-row code at = (code, λ f. Decoded.Insn (at f))
+row code at = (code, λ f. Some (at f))
 
 abbrev pub rows : {Op : Type 0} → (Op → ℕ) → (Op → Fields → Instr) → List Op → List Row
 rows code at [] = []
 rows code at (op ∷ ops) = row (code op) (at op) ∷ rows code at ops
 
 -- the first row that has the opcode, or d
-abbrev pub find : List Row → (Fields → Decoded) → ℕ → Fields → Decoded
+abbrev pub find : List Row → (Fields → Option Instr) → ℕ → Fields → Option Instr
 find [] d code = d
 find (r ∷ rs) d code = cond (eqb code r.0) r.1 (find rs d code)
 
-abbrev pub nothing : Fields → Decoded
-nothing f = Decoded.Illegal
+abbrev pub nothing : Fields → Option Instr
+nothing f = None
 
 -- extended opcodes of X forms under primary opcode 31
 unfoldable pub system_rows : List Row
@@ -205,32 +205,32 @@ rows4 = rows multiply_code multiply_at (Signed ∷ Unsigned ∷ [])
 unfoldable pub rows30 : List Row
 rows30 = rows rotate_double_code rotate_double_at (Rldicl ∷ Rldicr ∷ Rldimi ∷ [])
 
-unfoldable pub system : ℕ → Fields → Decoded
+unfoldable pub system : ℕ → Fields → Option Instr
 system x = find system_rows nothing x
 
-unfoldable pub storage : ℕ → Fields → Decoded
+unfoldable pub storage : ℕ → Fields → Option Instr
 storage x = find storage_rows (system x) x
 
-unfoldable pub logical : ℕ → Fields → Decoded
+unfoldable pub logical : ℕ → Fields → Option Instr
 logical x = find logical_rows (storage x) x
 
-unfoldable pub arithmetic : ℕ → ℕ → Fields → Decoded
+unfoldable pub arithmetic : ℕ → ℕ → Fields → Option Instr
 arithmetic x xo = find arithmetic_rows (logical x) xo
 
-unfoldable pub opcode19 : ℕ → Fields → Decoded
+unfoldable pub opcode19 : ℕ → Fields → Option Instr
 opcode19 x = find rows19 nothing x
 
-unfoldable pub opcode4 : ℕ → Fields → Decoded
+unfoldable pub opcode4 : ℕ → Fields → Option Instr
 opcode4 x = find rows4 nothing x
 
-unfoldable pub opcode30 : ℕ → Fields → Decoded
+unfoldable pub opcode30 : ℕ → Fields → Option Instr
 opcode30 md = find rows30 nothing md
 
 -- primary opcodes, the 42X's apart
 unfoldable pub added_rows : List Row
 added_rows = (row 7 multiply_imm_at ∷ (30, λ f. opcode30 f.md f) ∷ []) ++ rows stack_code stack_at (Lsku ∷ Stsku ∷ [])
 
-unfoldable pub added : ℕ → Fields → Decoded
+unfoldable pub added : ℕ → Fields → Option Instr
 added op = find added_rows nothing op
 
 unfoldable pub load_store_rows : List Row
@@ -242,7 +242,7 @@ load_store_rows =
     ++ rows load_double_code load_double_at (false ∷ true ∷ [])
     ++ rows store_double_code store_double_at (false ∷ true ∷ [])
 
-unfoldable pub load_store : ℕ → Fields → Decoded
+unfoldable pub load_store : ℕ → Fields → Option Instr
 load_store op = find load_store_rows (added op) op
 
 unfoldable pub primary_rows : List Row
@@ -254,26 +254,26 @@ primary_rows =
     ++ (row 23 rotate_at ∷ row 18 branch_at ∷ row 16 branch_if_at ∷ [])
     ++ ((4, λ f. opcode4 f.x f) ∷ (19, λ f. opcode19 f.x f) ∷ (31, λ f. arithmetic f.x f.xo f) ∷ [])
 
-unfoldable pub primary : ℕ → Fields → Decoded
+unfoldable pub primary : ℕ → Fields → Option Instr
 primary op = find primary_rows (load_store op) op
 
-abbrev pub guess_of : Fields → Decoded
+abbrev pub guess_of : Fields → Option Instr
 guess_of f = primary f.op f
 
-abbrev pub settle_of : ℕ → Instr → Decoded
-settle_of w i = cond (valid_of i && eqb (word_of i) w) (Decoded.Insn i) Decoded.Illegal
+abbrev pub settle_of : ℕ → Instr → Option Instr
+settle_of w i = then_some (valid_of i && eqb (word_of i) w) i
 
-abbrev pub settled : ℕ → Decoded → Decoded
-settled w (Decoded.Insn i) = settle_of w i
-settled w Decoded.Illegal = Decoded.Illegal
+abbrev pub settled : ℕ → Option Instr → Option Instr
+settled w (Some i) = settle_of w i
+settled w None = None
 
-unfoldable pub decode_of : ℕ → Decoded
+unfoldable pub decode_of : ℕ → Option Instr
 decode_of w = settled w (guess_of (fields_of w))
 
 -- what this core has not is illegal on it
-abbrev pub kept_on : Profile → Decoded → Decoded
-kept_on p (Decoded.Insn i) = cond (has p i) (Decoded.Insn i) Decoded.Illegal
-kept_on p Decoded.Illegal = Decoded.Illegal
+abbrev pub kept_on : Profile → Option Instr → Option Instr
+kept_on p (Some i) = then_some (has p i) i
+kept_on p None = None
 
-unfoldable pub decode_on : Profile → ℕ → Decoded
+unfoldable pub decode_on : Profile → ℕ → Option Instr
 decode_on p w = kept_on p (decode_of w)

@@ -1,5 +1,6 @@
--- The word of each form of instruction, and what writing one gives on a 42X, and on either core: its word, or refusal 6 and word 0.
-use Rattle.std.specs.Prelude.{ℕ, Bool, false, cond}
+-- The word of each form of instruction, and what writing one gives on a 42X, and on either core: its word, or none where it is not valid.
+use Rattle.std.specs.Prelude.{ℕ, false, Option}
+use Rattle.std.specs.Bool.{then_some}
 use Rattle.word.specs.Bits.{bits_at}
 use Rattle.insn.specs.Fields.{word_d, word_dd, word_x, word_xo, word_xfx, word_e, word_m, word_md, word_b, word_i}
 use Rattle.insn.specs.Codes.{arith_imm_code, arith_code, arith_one_code, multiply_code, logic_imm_code, logic_code, logic_one_code, compare_imm_code, compare_code, rotate_code, shift_code, load_code, store_code, load_indexed_code, store_indexed_code, load_double_code, store_double_code, stack_code, rotate_double_code, branch_code, spr_code, move_code, move_fxm, cache_code}
@@ -14,7 +15,6 @@ use Rattle.insn.specs.declared.instr.Rotate.{Rotate}
 use Rattle.insn.specs.declared.instr.LoadStore.{LoadStore}
 use Rattle.insn.specs.declared.instr.Branch.{Branch}
 use Rattle.insn.specs.declared.instr.System.{System}
-use Rattle.insn.specs.declared.instr.Written.{Written}
 
 abbrev pub word_of : Instr → ℕ
 word_of (Instr.Arithmetic (Arithmetic.Immediate op rt ra si)) = word_d (arith_imm_code op) rt ra si
@@ -51,11 +51,8 @@ word_of (Instr.System System.Rfi) = word_x 19 0 0 0 50 false  -- 9.4.69
 word_of (Instr.System System.Sync) = word_x 31 0 0 0 598 false  -- 9.4.102
 word_of (Instr.Cache op hint ra rb) = word_x 31 hint ra rb (cache_code op) false
 
-abbrev pub written_if : Bool → ℕ → Written
-written_if valid w = cond valid (record { refusal = 0; word = w }) (record { refusal = 6; word = 0 })
+abbrev pub written_of : Instr → Option ℕ
+written_of i = then_some (valid_of i) (word_of i)
 
-abbrev pub written_of : Instr → Written
-written_of i = written_if (valid_of i) (word_of i)
-
-abbrev pub written_on : Profile → Instr → Written
-written_on p i = written_if (valid_on p i) (word_of i)
+abbrev pub written_on : Profile → Instr → Option ℕ
+written_on p i = then_some (valid_on p i) (word_of i)

@@ -1,4 +1,5 @@
 // The opcode of each mnemonic: the primary opcode in bits 0:5 of the D and M forms, the extended one of the others.
+// Tables and no discriminants: a number may depend on width and update, and those up to 1014 would make the mnemonics of Instr wider.
 ghost use Rattle.std.specs.Prelude.{◌≡◌};
 ghost use Rattle.insn.specs.Codes.{arith_imm_code, arith_code, arith_one_code, multiply_code, logic_imm_code, logic_code, logic_one_code, compare_imm_code, compare_code, rotate_code, shift_code, load_code, store_code, load_indexed_code, store_indexed_code, load_double_code, store_double_code, stack_code, rotate_double_code, branch_code, spr_code, move_code, move_fxm, cache_code};
 

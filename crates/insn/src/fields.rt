@@ -30,6 +30,7 @@ pub struct Fields {
     pub rc: bool,
 }
 
+#[tactic(auto, unfolding(crate::specs::Fields::fields_of))]
 pub fn fields_of(word: u32) -> Fields
     ensures { result ≡ fields_of word }
 {
@@ -58,7 +59,7 @@ pub fn fields_of(word: u32) -> Fields
     }
 }
 
-// SPRN: the word has its two halves swapped.
+// SPRN: the word has its two halves swapped. The three that follow each name their own bits; one function of eight bit numbers is no plainer.
 fn spr_of(word: u32) -> u16
     ensures { result ≡ spr_of word }
 {
@@ -85,6 +86,7 @@ fn mb_of(word: u32) -> u8
     (high + low) as u8
 }
 
+// Ten layouts, each with fields of its own.
 pub fn word_d(op: u32, rt: u8, ra: u8, imm: u16) -> u32
     ensures { result ≡ word_d op rt ra imm }
 {

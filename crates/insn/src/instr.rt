@@ -34,20 +34,6 @@ pub enum Instr {
     },
 }
 
-// What a word reads as.
-#[derive(Clone, Copy)]
-pub enum Decoded {
-    Insn(Instr),
-    Illegal,
-}
-
-// What an instruction is written as: refusal 0 and its word, or refusal 6 and word 0.
-#[derive(Clone, Copy)]
-pub struct Written {
-    pub refusal: u8,
-    pub word: u32,
-}
-
 #[derive(Clone, Copy)]
 pub enum Arithmetic {
     Immediate {
@@ -242,7 +228,7 @@ pub enum Branch {
 
 #[derive(Clone, Copy)]
 pub enum System {
-    // spr is SPRN, the number itself
+    // spr is SPRN, the number itself: valid_of says which numbers are registers, and written_read speaks of all of them
     Spr { op: SprOp, rt: u8, spr: u16 },
     // rt is RT of mfcr and mfmsr, and RS of the others
     Move { op: MoveOp, rt: u8 },

@@ -1,13 +1,11 @@
 // A word as its instruction, or illegal: its opcodes suggest a form and a mnemonic, its parts the operands. What they make is
 // read if it is valid and written as the same word. A form that names every bit always is, so there no words are compared.
 // Each function takes the word apart for itself, so that only the parts it names are worked out.
-ghost use Rattle.std.specs.Prelude.{◌≡◌, cond};
+ghost use Rattle.std.specs.Prelude.{◌≡◌};
 ghost use Rattle.insn.specs.Codes.{arith_imm_code, arith_code, multiply_code, logic_imm_code, logic_code, rotate_code, shift_code, load_code, store_code, load_double_code, store_double_code, branch_code};
 ghost use Rattle.insn.specs.Fields.{fields_of};
-ghost use Rattle.insn.specs.Valid.{valid_of};
-ghost use Rattle.insn.specs.Write.{written_of};
-ghost use Rattle.insn.specs.declared.instr.Decoded.{Decoded};
-ghost use Rattle.insn.specs.Read.{settle_of, settled, decode_of, kept_on, decode_on, load_store, added, opcode4, opcode19, opcode30, arithmetic, logical, storage, system, arith_imm_at, arith_at, arith_one_at, multiply_at, multiply_imm_at, multiply_low_at, logic_imm_at, logic_at, logic_one_at, compare_imm_at, compare_at, rotate_imm_at, rotate_at, shift_at, srawi_at, rotate_double_at, load_at, load_indexed_at, store_at, store_indexed_at, load_double_at, store_double_at, stack_at, branch_at, branch_if_at, branch_to_at, trap_at, move_spr_at, move_reg_at, wrteei_at, rfi_at, sync_at, cache_at};
+ghost use Rattle.insn.specs.Write.{word_of, written_of};
+ghost use Rattle.insn.specs.Read.{settle_of, settled, decode_of, decode_on, load_store, added, opcode4, opcode19, opcode30, arithmetic, logical, storage, system, arith_imm_at, arith_at, arith_one_at, multiply_at, multiply_imm_at, multiply_low_at, logic_imm_at, logic_at, logic_one_at, compare_imm_at, compare_at, rotate_imm_at, rotate_at, shift_at, srawi_at, rotate_double_at, load_at, load_indexed_at, store_at, store_indexed_at, load_double_at, store_double_at, stack_at, branch_at, branch_if_at, branch_to_at, trap_at, move_spr_at, move_reg_at, wrteei_at, rfi_at, sync_at, cache_at};
 
 use crate::fields::fields_of;
 use crate::forms;
@@ -15,65 +13,23 @@ use crate::instr::*;
 use crate::profile::{Profile, has};
 use word::width::Width;
 
-// The primary opcode.
-fn opcode(word: u32) -> u8
-    ensures { result ≡ (fields_of word).op }
-{
-    let f = fields_of(word);
-    f.op
-}
-
-// The extended opcode of an X form.
-fn x_opcode(word: u32) -> u16
-    ensures { result ≡ (fields_of word).x }
-{
-    let f = fields_of(word);
-    f.x
-}
-
-// The extended opcode of an XO form.
-fn xo_opcode(word: u32) -> u16
-    ensures { result ≡ (fields_of word).xo }
-{
-    let f = fields_of(word);
-    f.xo
-}
-
-// The extended opcode of an MD form.
-fn md_opcode(word: u32) -> u8
-    ensures { result ≡ (fields_of word).md }
-{
-    let f = fields_of(word);
-    f.md
-}
-
 // As the 42X reads it, where this core has the instruction.
-pub fn read(profile: Profile, word: u32) -> Decoded
+#[tactic(auto, unfolding(crate::specs::Read::decode_on))]
+pub fn read(profile: Profile, word: u32) -> Option<Instr>
     ensures { result ≡ decode_on profile word }
 {
-    let what = read_42x(word);
-    match what {
-        Decoded::Insn(i) => keep(profile, i),
-        Decoded::Illegal => Decoded::Illegal,
-    }
-}
-
-fn keep(profile: Profile, i: Instr) -> Decoded
-    ensures { result ≡ kept_on profile (Decoded.Insn i) }
-{
-    if has(profile, i) {
-        Decoded::Insn(i)
-    } else {
-        Decoded::Illegal
+    match read_42x(word) {
+        Some(i) if has(profile, i) => Some(i),
+        _ => None,
     }
 }
 
 // By the primary opcode.
-fn read_42x(word: u32) -> Decoded
+#[tactic(auto, unfolding(crate::specs::Read::decode_of, crate::specs::Read::primary, crate::specs::Read::primary_rows))]
+fn read_42x(word: u32) -> Option<Instr>
     ensures { result ≡ decode_of word }
 {
-    let op = opcode(word);
-    match op {
+    match fields_of(word).op {
         14 => arith_imm(word, ArithImmOp::Addi),
         15 => arith_imm(word, ArithImmOp::Addis),
         12 => arith_imm(word, ArithImmOp::Addic),
@@ -99,11 +55,11 @@ fn read_42x(word: u32) -> Decoded
     }
 }
 
-fn read_load_store(word: u32) -> Decoded
+#[tactic(auto, unfolding(crate::specs::Read::load_store, crate::specs::Read::load_store_rows))]
+fn read_load_store(word: u32) -> Option<Instr>
     ensures { result ≡ settled word (load_store (fields_of word).op (fields_of word)) }
 {
-    let op = opcode(word);
-    match op {
+    match fields_of(word).op {
         34 => load(word, Width::Byte, false),
         40 => load(word, Width::Half, false),
         32 => load(word, Width::Word, false),
@@ -125,66 +81,66 @@ fn read_load_store(word: u32) -> Decoded
 }
 
 // What the 42X adds.
-fn read_added(word: u32) -> Decoded
+#[tactic(auto, unfolding(crate::specs::Read::added, crate::specs::Read::added_rows))]
+fn read_added(word: u32) -> Option<Instr>
     ensures { result ≡ settled word (added (fields_of word).op (fields_of word)) }
 {
-    let op = opcode(word);
-    match op {
+    match fields_of(word).op {
         7 => multiply_imm(word),
         30 => read_30(word),
         58 => stack(word, StackOp::Lsku),
         62 => stack(word, StackOp::Stsku),
-        _ => Decoded::Illegal,
+        _ => None,
     }
 }
 
 // By the extended opcode under primary opcode 30.
-fn read_30(word: u32) -> Decoded
+#[tactic(auto, unfolding(crate::specs::Read::opcode30, crate::specs::Read::rows30))]
+fn read_30(word: u32) -> Option<Instr>
     requires { (fields_of word).op ≡ 30 }
     ensures { result ≡ settled word (opcode30 (fields_of word).md (fields_of word)) }
 {
-    let md = md_opcode(word);
-    match md {
+    match fields_of(word).md {
         0 => rotate_double(word, RotateDoubleOp::Rldicl),
         1 => rotate_double(word, RotateDoubleOp::Rldicr),
         3 => rotate_double(word, RotateDoubleOp::Rldimi),
-        _ => Decoded::Illegal,
+        _ => None,
     }
 }
 
 // By the extended opcode under primary opcode 4.
-fn read_4(word: u32) -> Decoded
+#[tactic(auto, unfolding(crate::specs::Read::opcode4, crate::specs::Read::rows4))]
+fn read_4(word: u32) -> Option<Instr>
     requires { (fields_of word).op ≡ 4 }
     ensures { result ≡ settled word (opcode4 (fields_of word).x (fields_of word)) }
 {
-    let x = x_opcode(word);
-    match x {
+    match fields_of(word).x {
         424 => multiply(word, Sign::Signed),
         392 => multiply(word, Sign::Unsigned),
-        _ => Decoded::Illegal,
+        _ => None,
     }
 }
 
-fn read_19(word: u32) -> Decoded
+#[tactic(auto, unfolding(crate::specs::Read::opcode19, crate::specs::Read::rows19))]
+fn read_19(word: u32) -> Option<Instr>
     requires { (fields_of word).op ≡ 19 }
     ensures { result ≡ settled word (opcode19 (fields_of word).x (fields_of word)) }
 {
-    let x = x_opcode(word);
-    match x {
+    match fields_of(word).x {
         16 => branch_to(word, BranchOp::Bclr),
         528 => branch_to(word, BranchOp::Bcctr),
         50 => rfi(word),
-        _ => Decoded::Illegal,
+        _ => None,
     }
 }
 
 // The XO forms; what is none of them is an X form.
-fn read_31(word: u32) -> Decoded
+#[tactic(auto, unfolding(crate::specs::Read::arithmetic, crate::specs::Read::arithmetic_rows))]
+fn read_31(word: u32) -> Option<Instr>
     requires { (fields_of word).op ≡ 31 }
     ensures { result ≡ settled word (arithmetic (fields_of word).x (fields_of word).xo (fields_of word)) }
 {
-    let xo = xo_opcode(word);
-    match xo {
+    match fields_of(word).xo {
         266 => arith(word, ArithOp::Add),
         10 => arith(word, ArithOp::Addc),
         138 => arith(word, ArithOp::Adde),
@@ -201,12 +157,12 @@ fn read_31(word: u32) -> Decoded
     }
 }
 
-fn read_logical(word: u32) -> Decoded
+#[tactic(auto, unfolding(crate::specs::Read::logical, crate::specs::Read::logical_rows))]
+fn read_logical(word: u32) -> Option<Instr>
     requires { (fields_of word).op ≡ 31 }
     ensures { result ≡ settled word (logical (fields_of word).x (fields_of word)) }
 {
-    let x = x_opcode(word);
-    match x {
+    match fields_of(word).x {
         28 => logic(word, LogicOp::And),
         60 => logic(word, LogicOp::Andc),
         284 => logic(word, LogicOp::Eqv),
@@ -229,11 +185,11 @@ fn read_logical(word: u32) -> Decoded
     }
 }
 
-fn read_storage(word: u32) -> Decoded
+#[tactic(auto, unfolding(crate::specs::Read::storage, crate::specs::Read::storage_rows))]
+fn read_storage(word: u32) -> Option<Instr>
     ensures { result ≡ settled word (storage (fields_of word).x (fields_of word)) }
 {
-    let x = x_opcode(word);
-    match x {
+    match fields_of(word).x {
         87 => load_indexed(word, Width::Byte),
         279 => load_indexed(word, Width::Half),
         23 => load_indexed(word, Width::Word),
@@ -248,11 +204,11 @@ fn read_storage(word: u32) -> Decoded
     }
 }
 
-fn read_system(word: u32) -> Decoded
+#[tactic(auto, unfolding(crate::specs::Read::system, crate::specs::Read::system_rows))]
+fn read_system(word: u32) -> Option<Instr>
     ensures { result ≡ settled word (system (fields_of word).x (fields_of word)) }
 {
-    let x = x_opcode(word);
-    match x {
+    match fields_of(word).x {
         339 => move_spr(word, SprOp::Mfspr),
         467 => move_spr(word, SprOp::Mtspr),
         19 => move_reg(word, MoveOp::Mfcr),
@@ -262,35 +218,33 @@ fn read_system(word: u32) -> Decoded
         131 => move_reg(word, MoveOp::Wrtee),
         163 => wrteei(word),
         598 => sync(word),
-        _ => Decoded::Illegal,
+        _ => None,
     }
 }
 
-// The instruction, where it is valid and written as this very word.
-fn settle(word: u32, i: Instr, back: Written) -> Decoded
+// The instruction, where it is valid and written as this very word: both asked at once, as a branch for each slows every step.
+fn settle(word: u32, i: Instr, back: Option<u32>) -> Option<Instr>
     requires { back ≡ written_of i }
     ensures { result ≡ settle_of word i }
 {
-    if (back.refusal == 0) & (back.word == word) {
-        Decoded::Insn(i)
+    if back.is_some() & (back.unwrap_or(0) == word) {
+        Some(i)
     } else {
-        Decoded::Illegal
+        None
     }
 }
 
 // The same for a form that names every bit: with its own opcode it is written as this very word.
-fn settle_whole(i: Instr, back: Written) -> Decoded
-    requires { back ≡ written_of i }
-    ensures { result ≡ cond (valid_of i) (Decoded.Insn i) Decoded.Illegal }
+fn settle_whole(word: u32, i: Instr, back: Option<u32>) -> Option<Instr>
+    requires whole { word_of i ≡ word }
+    requires written { back ≡ written_of i }
+    ensures { result ≡ settle_of word i }
 {
-    if back.refusal == 0 {
-        Decoded::Insn(i)
-    } else {
-        Decoded::Illegal
-    }
+    if back.is_some() { Some(i) } else { None }
 }
 
-fn arith_imm(word: u32, op: ArithImmOp) -> Decoded
+#[tactic(auto, using(crate::proofs::Parts::d_whole))]
+fn arith_imm(word: u32, op: ArithImmOp) -> Option<Instr>
     requires { (fields_of word).op ≡ arith_imm_code op }
     ensures { result ≡ settle_of word (arith_imm_at op (fields_of word)) }
 {
@@ -301,10 +255,11 @@ fn arith_imm(word: u32, op: ArithImmOp) -> Decoded
         ra: f.ra,
         si: f.imm,
     });
-    settle_whole(i, forms::arith_imm(op, f.rt, f.ra, f.imm))
+    settle_whole(word, i, forms::arith_imm(op, f.rt, f.ra, f.imm))
 }
 
-fn arith(word: u32, op: ArithOp) -> Decoded
+#[tactic(auto, using(crate::proofs::Parts::xo_whole))]
+fn arith(word: u32, op: ArithOp) -> Option<Instr>
     requires { ((fields_of word).op ≡ 31) × ((fields_of word).xo ≡ arith_code op) }
     ensures { result ≡ settle_of word (arith_at op (fields_of word)) }
 {
@@ -317,10 +272,10 @@ fn arith(word: u32, op: ArithOp) -> Decoded
         oe: f.oe,
         rc: f.rc,
     });
-    settle_whole(i, forms::arith(op, f.rt, f.ra, f.rb, f.oe, f.rc))
+    settle_whole(word, i, forms::arith(op, f.rt, f.ra, f.rb, f.oe, f.rc))
 }
 
-fn arith_one(word: u32, op: ArithOneOp) -> Decoded
+fn arith_one(word: u32, op: ArithOneOp) -> Option<Instr>
     ensures { result ≡ settle_of word (arith_one_at op (fields_of word)) }
 {
     let f = fields_of(word);
@@ -334,7 +289,8 @@ fn arith_one(word: u32, op: ArithOneOp) -> Decoded
     settle(word, i, forms::arith_one(op, f.rt, f.ra, f.oe, f.rc))
 }
 
-fn multiply(word: u32, sign: Sign) -> Decoded
+#[tactic(auto, using(crate::proofs::Parts::x4_whole))]
+fn multiply(word: u32, sign: Sign) -> Option<Instr>
     requires { ((fields_of word).op ≡ 4) × ((fields_of word).x ≡ multiply_code sign) }
     ensures { result ≡ settle_of word (multiply_at sign (fields_of word)) }
 {
@@ -346,10 +302,11 @@ fn multiply(word: u32, sign: Sign) -> Decoded
         rb: f.rb,
         rc: f.rc,
     });
-    settle_whole(i, forms::multiply(sign, f.rt, f.ra, f.rb, f.rc))
+    settle_whole(word, i, forms::multiply(sign, f.rt, f.ra, f.rb, f.rc))
 }
 
-fn multiply_imm(word: u32) -> Decoded
+#[tactic(auto, using(crate::proofs::Parts::multiply_imm_whole))]
+fn multiply_imm(word: u32) -> Option<Instr>
     requires { (fields_of word).op ≡ 7 }
     ensures { result ≡ settle_of word (multiply_imm_at (fields_of word)) }
 {
@@ -359,10 +316,11 @@ fn multiply_imm(word: u32) -> Decoded
         ra: f.ra,
         si: f.imm,
     });
-    settle_whole(i, forms::multiply_imm(f.rt, f.ra, f.imm))
+    settle_whole(word, i, forms::multiply_imm(f.rt, f.ra, f.imm))
 }
 
-fn multiply_low(word: u32) -> Decoded
+#[tactic(auto, using(crate::proofs::Parts::multiply_low_whole))]
+fn multiply_low(word: u32) -> Option<Instr>
     requires { ((fields_of word).op ≡ 31) × ((fields_of word).xo ≡ 235) }
     ensures { result ≡ settle_of word (multiply_low_at (fields_of word)) }
 {
@@ -374,10 +332,11 @@ fn multiply_low(word: u32) -> Decoded
         oe: f.oe,
         rc: f.rc,
     });
-    settle_whole(i, forms::multiply_low(f.rt, f.ra, f.rb, f.oe, f.rc))
+    settle_whole(word, i, forms::multiply_low(f.rt, f.ra, f.rb, f.oe, f.rc))
 }
 
-fn logic_imm(word: u32, op: LogicImmOp) -> Decoded
+#[tactic(auto, using(crate::proofs::Parts::d_whole))]
+fn logic_imm(word: u32, op: LogicImmOp) -> Option<Instr>
     requires { (fields_of word).op ≡ logic_imm_code op }
     ensures { result ≡ settle_of word (logic_imm_at op (fields_of word)) }
 {
@@ -388,10 +347,11 @@ fn logic_imm(word: u32, op: LogicImmOp) -> Decoded
         ra: f.ra,
         ui: f.imm,
     });
-    settle_whole(i, forms::logic_imm(op, f.rt, f.ra, f.imm))
+    settle_whole(word, i, forms::logic_imm(op, f.rt, f.ra, f.imm))
 }
 
-fn logic(word: u32, op: LogicOp) -> Decoded
+#[tactic(auto, using(crate::proofs::Parts::x31_whole))]
+fn logic(word: u32, op: LogicOp) -> Option<Instr>
     requires { ((fields_of word).op ≡ 31) × ((fields_of word).x ≡ logic_code op) }
     ensures { result ≡ settle_of word (logic_at op (fields_of word)) }
 {
@@ -403,10 +363,10 @@ fn logic(word: u32, op: LogicOp) -> Decoded
         rb: f.rb,
         rc: f.rc,
     });
-    settle_whole(i, forms::logic(op, f.rt, f.ra, f.rb, f.rc))
+    settle_whole(word, i, forms::logic(op, f.rt, f.ra, f.rb, f.rc))
 }
 
-fn logic_one(word: u32, op: LogicOneOp) -> Decoded
+fn logic_one(word: u32, op: LogicOneOp) -> Option<Instr>
     ensures { result ≡ settle_of word (logic_one_at op (fields_of word)) }
 {
     let f = fields_of(word);
@@ -419,7 +379,7 @@ fn logic_one(word: u32, op: LogicOneOp) -> Decoded
     settle(word, i, forms::logic_one(op, f.rt, f.ra, f.rc))
 }
 
-fn compare_imm(word: u32, sign: Sign) -> Decoded
+fn compare_imm(word: u32, sign: Sign) -> Option<Instr>
     ensures { result ≡ settle_of word (compare_imm_at sign (fields_of word)) }
 {
     let f = fields_of(word);
@@ -431,7 +391,7 @@ fn compare_imm(word: u32, sign: Sign) -> Decoded
     settle(word, i, forms::compare_imm(sign, f.ra, f.imm))
 }
 
-fn compare(word: u32, sign: Sign) -> Decoded
+fn compare(word: u32, sign: Sign) -> Option<Instr>
     ensures { result ≡ settle_of word (compare_at sign (fields_of word)) }
 {
     let f = fields_of(word);
@@ -443,7 +403,8 @@ fn compare(word: u32, sign: Sign) -> Decoded
     settle(word, i, forms::compare(sign, f.ra, f.rb))
 }
 
-fn rotate_imm(word: u32, op: RotateOp) -> Decoded
+#[tactic(auto, using(crate::proofs::Parts::m_whole))]
+fn rotate_imm(word: u32, op: RotateOp) -> Option<Instr>
     requires { (fields_of word).op ≡ rotate_code op }
     ensures { result ≡ settle_of word (rotate_imm_at op (fields_of word)) }
 {
@@ -458,12 +419,14 @@ fn rotate_imm(word: u32, op: RotateOp) -> Decoded
         rc: f.rc,
     });
     settle_whole(
+        word,
         i,
         forms::rotate_imm(op, f.rt, f.ra, f.rb as u16, f.mb, f.me, f.rc),
     )
 }
 
-fn rotate(word: u32) -> Decoded
+#[tactic(auto, using(crate::proofs::Parts::rotate_whole))]
+fn rotate(word: u32) -> Option<Instr>
     requires { (fields_of word).op ≡ 23 }
     ensures { result ≡ settle_of word (rotate_at (fields_of word)) }
 {
@@ -476,10 +439,11 @@ fn rotate(word: u32) -> Decoded
         me: f.me,
         rc: f.rc,
     });
-    settle_whole(i, forms::rotate(f.rt, f.ra, f.rb, f.mb, f.me, f.rc))
+    settle_whole(word, i, forms::rotate(f.rt, f.ra, f.rb, f.mb, f.me, f.rc))
 }
 
-fn shift(word: u32, op: ShiftOp) -> Decoded
+#[tactic(auto, using(crate::proofs::Parts::x31_whole))]
+fn shift(word: u32, op: ShiftOp) -> Option<Instr>
     requires { ((fields_of word).op ≡ 31) × ((fields_of word).x ≡ shift_code op) }
     ensures { result ≡ settle_of word (shift_at op (fields_of word)) }
 {
@@ -491,10 +455,11 @@ fn shift(word: u32, op: ShiftOp) -> Decoded
         rb: f.rb,
         rc: f.rc,
     });
-    settle_whole(i, forms::shift(op, f.rt, f.ra, f.rb, f.rc))
+    settle_whole(word, i, forms::shift(op, f.rt, f.ra, f.rb, f.rc))
 }
 
-fn srawi(word: u32) -> Decoded
+#[tactic(auto, using(crate::proofs::Parts::srawi_whole))]
+fn srawi(word: u32) -> Option<Instr>
     requires { ((fields_of word).op ≡ 31) × ((fields_of word).x ≡ 824) }
     ensures { result ≡ settle_of word (srawi_at (fields_of word)) }
 {
@@ -505,10 +470,10 @@ fn srawi(word: u32) -> Decoded
         sh: f.rb,
         rc: f.rc,
     });
-    settle_whole(i, forms::srawi(f.rt, f.ra, f.rb, f.rc))
+    settle_whole(word, i, forms::srawi(f.rt, f.ra, f.rb, f.rc))
 }
 
-fn rotate_double(word: u32, op: RotateDoubleOp) -> Decoded
+fn rotate_double(word: u32, op: RotateDoubleOp) -> Option<Instr>
     ensures { result ≡ settle_of word (rotate_double_at op (fields_of word)) }
 {
     let f = fields_of(word);
@@ -527,7 +492,8 @@ fn rotate_double(word: u32, op: RotateDoubleOp) -> Decoded
     )
 }
 
-fn load(word: u32, width: Width, update: bool) -> Decoded
+#[tactic(auto, using(crate::proofs::Parts::d_whole))]
+fn load(word: u32, width: Width, update: bool) -> Option<Instr>
     requires { (fields_of word).op ≡ load_code width update }
     ensures { result ≡ settle_of word (load_at width update (fields_of word)) }
 {
@@ -539,10 +505,10 @@ fn load(word: u32, width: Width, update: bool) -> Decoded
         ra: f.ra,
         d: f.imm,
     });
-    settle_whole(i, forms::load(width, update, f.rt, f.ra, f.imm))
+    settle_whole(word, i, forms::load(width, update, f.rt, f.ra, f.imm))
 }
 
-fn load_indexed(word: u32, width: Width) -> Decoded
+fn load_indexed(word: u32, width: Width) -> Option<Instr>
     ensures { result ≡ settle_of word (load_indexed_at width (fields_of word)) }
 {
     let f = fields_of(word);
@@ -555,7 +521,8 @@ fn load_indexed(word: u32, width: Width) -> Decoded
     settle(word, i, forms::load_indexed(width, f.rt, f.ra, f.rb))
 }
 
-fn store(word: u32, width: Width, update: bool) -> Decoded
+#[tactic(auto, using(crate::proofs::Parts::d_whole))]
+fn store(word: u32, width: Width, update: bool) -> Option<Instr>
     requires { (fields_of word).op ≡ store_code width update }
     ensures { result ≡ settle_of word (store_at width update (fields_of word)) }
 {
@@ -567,10 +534,10 @@ fn store(word: u32, width: Width, update: bool) -> Decoded
         ra: f.ra,
         d: f.imm,
     });
-    settle_whole(i, forms::store(width, update, f.rt, f.ra, f.imm))
+    settle_whole(word, i, forms::store(width, update, f.rt, f.ra, f.imm))
 }
 
-fn store_indexed(word: u32, width: Width) -> Decoded
+fn store_indexed(word: u32, width: Width) -> Option<Instr>
     ensures { result ≡ settle_of word (store_indexed_at width (fields_of word)) }
 {
     let f = fields_of(word);
@@ -583,7 +550,8 @@ fn store_indexed(word: u32, width: Width) -> Decoded
     settle(word, i, forms::store_indexed(width, f.rt, f.ra, f.rb))
 }
 
-fn load_double(word: u32, update: bool) -> Decoded
+#[tactic(auto, using(crate::proofs::Parts::d_whole))]
+fn load_double(word: u32, update: bool) -> Option<Instr>
     requires { (fields_of word).op ≡ load_double_code update }
     ensures { result ≡ settle_of word (load_double_at update (fields_of word)) }
 {
@@ -594,10 +562,11 @@ fn load_double(word: u32, update: bool) -> Decoded
         ra: f.ra,
         d: f.imm,
     });
-    settle_whole(i, forms::load_double(update, f.rt, f.ra, f.imm))
+    settle_whole(word, i, forms::load_double(update, f.rt, f.ra, f.imm))
 }
 
-fn store_double(word: u32, update: bool) -> Decoded
+#[tactic(auto, using(crate::proofs::Parts::d_whole))]
+fn store_double(word: u32, update: bool) -> Option<Instr>
     requires { (fields_of word).op ≡ store_double_code update }
     ensures { result ≡ settle_of word (store_double_at update (fields_of word)) }
 {
@@ -608,10 +577,10 @@ fn store_double(word: u32, update: bool) -> Decoded
         ra: f.ra,
         d: f.imm,
     });
-    settle_whole(i, forms::store_double(update, f.rt, f.ra, f.imm))
+    settle_whole(word, i, forms::store_double(update, f.rt, f.ra, f.imm))
 }
 
-fn stack(word: u32, op: StackOp) -> Decoded
+fn stack(word: u32, op: StackOp) -> Option<Instr>
     ensures { result ≡ settle_of word (stack_at op (fields_of word)) }
 {
     let f = fields_of(word);
@@ -624,7 +593,8 @@ fn stack(word: u32, op: StackOp) -> Decoded
     settle(word, i, forms::stack(op, f.rt, f.ra, f.dd))
 }
 
-fn branch(word: u32) -> Decoded
+#[tactic(auto, using(crate::proofs::Parts::i_whole))]
+fn branch(word: u32) -> Option<Instr>
     requires { (fields_of word).op ≡ 18 }
     ensures { result ≡ settle_of word (branch_at (fields_of word)) }
 {
@@ -634,10 +604,11 @@ fn branch(word: u32) -> Decoded
         lk: f.rc,
         li: f.li,
     });
-    settle_whole(i, forms::branch(f.aa, f.rc, f.li))
+    settle_whole(word, i, forms::branch(f.aa, f.rc, f.li))
 }
 
-fn branch_if(word: u32) -> Decoded
+#[tactic(auto, using(crate::proofs::Parts::b_whole))]
+fn branch_if(word: u32) -> Option<Instr>
     requires { (fields_of word).op ≡ 16 }
     ensures { result ≡ settle_of word (branch_if_at (fields_of word)) }
 {
@@ -649,10 +620,11 @@ fn branch_if(word: u32) -> Decoded
         aa: f.aa,
         lk: f.rc,
     });
-    settle_whole(i, forms::branch_if(f.rt, f.ra, f.bd, f.aa, f.rc))
+    settle_whole(word, i, forms::branch_if(f.rt, f.ra, f.bd, f.aa, f.rc))
 }
 
-fn branch_to(word: u32, op: BranchOp) -> Decoded
+#[tactic(auto, using(crate::proofs::Parts::x19_whole))]
+fn branch_to(word: u32, op: BranchOp) -> Option<Instr>
     requires { ((fields_of word).op ≡ 19) × ((fields_of word).x ≡ branch_code op) }
     ensures { result ≡ settle_of word (branch_to_at op (fields_of word)) }
 {
@@ -664,10 +636,11 @@ fn branch_to(word: u32, op: BranchOp) -> Decoded
         bh: f.rb,
         lk: f.rc,
     });
-    settle_whole(i, forms::branch_to(op, f.rt, f.ra, f.rb, f.rc))
+    settle_whole(word, i, forms::branch_to(op, f.rt, f.ra, f.rb, f.rc))
 }
 
-fn trap(word: u32) -> Decoded
+#[tactic(auto, using(crate::proofs::Parts::trap_whole))]
+fn trap(word: u32) -> Option<Instr>
     requires { ((fields_of word).op ≡ 31) × ((fields_of word).x ≡ 4) }
     ensures { result ≡ settle_of word (trap_at (fields_of word)) }
 {
@@ -678,10 +651,10 @@ fn trap(word: u32) -> Decoded
         rb: f.rb,
         tg: f.rc,
     };
-    settle_whole(i, forms::trap(f.rt, f.ra, f.rb, f.rc))
+    settle_whole(word, i, forms::trap(f.rt, f.ra, f.rb, f.rc))
 }
 
-fn move_spr(word: u32, op: SprOp) -> Decoded
+fn move_spr(word: u32, op: SprOp) -> Option<Instr>
     ensures { result ≡ settle_of word (move_spr_at op (fields_of word)) }
 {
     let f = fields_of(word);
@@ -693,7 +666,7 @@ fn move_spr(word: u32, op: SprOp) -> Decoded
     settle(word, i, forms::move_spr(op, f.rt, f.spr))
 }
 
-fn move_reg(word: u32, op: MoveOp) -> Decoded
+fn move_reg(word: u32, op: MoveOp) -> Option<Instr>
     ensures { result ≡ settle_of word (move_reg_at op (fields_of word)) }
 {
     let f = fields_of(word);
@@ -701,7 +674,7 @@ fn move_reg(word: u32, op: MoveOp) -> Decoded
     settle(word, i, forms::move_reg(op, f.rt))
 }
 
-fn wrteei(word: u32) -> Decoded
+fn wrteei(word: u32) -> Option<Instr>
     ensures { result ≡ settle_of word (wrteei_at (fields_of word)) }
 {
     let f = fields_of(word);
@@ -709,21 +682,21 @@ fn wrteei(word: u32) -> Decoded
     settle(word, i, forms::wrteei(f.e))
 }
 
-fn rfi(word: u32) -> Decoded
+fn rfi(word: u32) -> Option<Instr>
     ensures { result ≡ settle_of word (rfi_at (fields_of word)) }
 {
     let i = Instr::System(System::Rfi);
     settle(word, i, forms::rfi())
 }
 
-fn sync(word: u32) -> Decoded
+fn sync(word: u32) -> Option<Instr>
     ensures { result ≡ settle_of word (sync_at (fields_of word)) }
 {
     let i = Instr::System(System::Sync);
     settle(word, i, forms::sync())
 }
 
-fn cache(word: u32, op: CacheOp) -> Decoded
+fn cache(word: u32, op: CacheOp) -> Option<Instr>
     ensures { result ≡ settle_of word (cache_at op (fields_of word)) }
 {
     let f = fields_of(word);

@@ -5,6 +5,7 @@ ghost use Rattle.insn.specs.Valid.{reg_of, two_regs, three_regs, paired_with, is
 use crate::instr::*;
 use word::bits::{Bit, bit_at};
 
+// One bit for each register: `matches!` compiles to branches, and each step asks.
 pub fn reg_defined(n: u8) -> bool
     ensures { result ≡ reg_of n }
 {
@@ -36,33 +37,23 @@ pub fn is_vdr(n: u8) -> bool
     two_defined(n, paired_with(n))
 }
 
-// The numbers of Table 1.34.
+// The numbers of Table 1.34. Which register each is says crate machine (`spr`): Reg stands there, above this crate.
+#[tactic(auto, unfolding(crate::specs::Valid::is_spr))]
 fn is_spr(n: u16) -> bool
     ensures { result ≡ is_spr n }
 {
-    (n == 1)
-        | (n == 8)
-        | (n == 9)
-        | (n == 22)
-        | (n == 26)
-        | (n == 27)
-        | (n == 61)
-        | (n == 62)
-        | (n == 63)
-        | (n == 272)
-        | (n == 286)
-        | (n == 287)
-        | (n == 308)
-        | (n == 316)
-        | (n == 336)
-        | (n == 340)
+    matches!(
+        n,
+        1 | 8 | 9 | 22 | 26 | 27 | 61 | 62 | 63 | 272 | 286 | 287 | 308 | 316 | 336 | 340
+    )
 }
 
 // IVPR, PIR and PVR.
+#[tactic(auto, unfolding(crate::specs::Valid::read_only))]
 fn read_only(n: u16) -> bool
     ensures { result ≡ read_only n }
 {
-    (n == 63) | (n == 286) | (n == 287)
+    matches!(n, 63 | 286 | 287)
 }
 
 pub fn spr_ok(op: SprOp, n: u16) -> bool
@@ -128,7 +119,7 @@ pub fn branch_form(op: BranchOp, bo: u8) -> bool
 pub fn is_to(to: u8) -> bool
     ensures { result ≡ is_to to }
 {
-    (to == 0) | (to == 31)
+    matches!(to, 0 | 31)
 }
 
 pub fn trap_form(to: u8, ra: u8, rb: u8) -> bool

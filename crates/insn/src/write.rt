@@ -1,4 +1,4 @@
-// An instruction as its word, or refused with 6: on a 42X by family, then by form.
+// An instruction as its word, or none where it is not valid: on a 42X by family, then by form.
 ghost use Rattle.std.specs.Prelude.{◌≡◌};
 ghost use Rattle.insn.specs.Write.{written_of, written_on};
 ghost use Rattle.insn.specs.declared.instr.Instr.{Instr};
@@ -7,17 +7,13 @@ use crate::forms;
 use crate::instr::*;
 use crate::profile::{Profile, has};
 
-pub fn write(profile: Profile, i: Instr) -> Written
+pub fn write(profile: Profile, i: Instr) -> Option<u32>
     ensures { result ≡ written_on profile i }
 {
-    if has(profile, i) {
-        write_42x(i)
-    } else {
-        forms::written(false, 0)
-    }
+    if has(profile, i) { write_42x(i) } else { None }
 }
 
-pub fn write_42x(i: Instr) -> Written
+pub fn write_42x(i: Instr) -> Option<u32>
     ensures { result ≡ written_of i }
 {
     match i {
@@ -34,7 +30,7 @@ pub fn write_42x(i: Instr) -> Written
     }
 }
 
-fn arithmetic(a: Arithmetic) -> Written
+fn arithmetic(a: Arithmetic) -> Option<u32>
     ensures { result ≡ written_of (Instr.Arithmetic a) }
 {
     match a {
@@ -60,7 +56,7 @@ fn arithmetic(a: Arithmetic) -> Written
     }
 }
 
-fn logical(l: Logical) -> Written
+fn logical(l: Logical) -> Option<u32>
     ensures { result ≡ written_of (Instr.Logical l) }
 {
     match l {
@@ -70,7 +66,7 @@ fn logical(l: Logical) -> Written
     }
 }
 
-fn compare(c: Compare) -> Written
+fn compare(c: Compare) -> Option<u32>
     ensures { result ≡ written_of (Instr.Compare c) }
 {
     match c {
@@ -79,7 +75,7 @@ fn compare(c: Compare) -> Written
     }
 }
 
-fn rotate(r: Rotate) -> Written
+fn rotate(r: Rotate) -> Option<u32>
     ensures { result ≡ written_of (Instr.Rotate r) }
 {
     match r {
@@ -113,7 +109,7 @@ fn rotate(r: Rotate) -> Written
     }
 }
 
-fn load_store(s: LoadStore) -> Written
+fn load_store(s: LoadStore) -> Option<u32>
     ensures { result ≡ written_of (Instr.LoadStore s) }
 {
     match s {
@@ -138,7 +134,7 @@ fn load_store(s: LoadStore) -> Written
     }
 }
 
-fn branch(b: Branch) -> Written
+fn branch(b: Branch) -> Option<u32>
     ensures { result ≡ written_of (Instr.Branch b) }
 {
     match b {
@@ -148,7 +144,7 @@ fn branch(b: Branch) -> Written
     }
 }
 
-fn system(s: System) -> Written
+fn system(s: System) -> Option<u32>
     ensures { result ≡ written_of (Instr.System s) }
 {
     match s {

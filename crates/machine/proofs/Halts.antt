@@ -11,16 +11,14 @@ use Rattle.word.specs.Width.{bytes}
 use Rattle.word.proofs.Truth.{never}
 use Rattle.word.specs.declared.sum.Sum.{Sum}
 use Rattle.word.specs.declared.shift.Shifted.{Shifted}
-use Rattle.memory.specs.Access.{pick, aligned_of, access_of, reaches_past}
-use Rattle.memory.specs.Load.{loaded, load_of, loaded_double, load_double_of, fetch_of}
+use Rattle.memory.specs.Access.{Access, pick, aligned_of, access_of, reaches_past}
+use Rattle.memory.specs.Load.{Loaded, loaded, load_of, load_double_of, fetch_of}
 use Rattle.memory.specs.Store.{block_at}
-use Rattle.memory.specs.declared.access.Access.{Access}
-use Rattle.memory.specs.declared.load.Loaded.{Loaded}
+use Rattle.std.specs.Prelude.{Option, Some, None, Ok, Err}
 use Rattle.insn.specs.Profile.{is42x}
 use Rattle.insn.specs.Read.{decode_on}
 use Rattle.insn.specs.declared.profile.Profile.{Profile}
 use Rattle.insn.specs.declared.instr.Instr.{Instr}
-use Rattle.insn.specs.declared.instr.Decoded.{Decoded}
 use Rattle.insn.specs.declared.instr.Arithmetic.{Arithmetic}
 use Rattle.insn.specs.declared.instr.Logical.{Logical}
 use Rattle.insn.specs.declared.instr.Compare.{Compare}
@@ -34,7 +32,7 @@ use Rattle.insn.specs.declared.instr.System.{System}
 use Rattle.insn.specs.declared.instr.SprOp.{SprOp}
 use Rattle.insn.specs.declared.instr.MoveOp.{MoveOp}
 use Rattle.machine.specs.State.{gpr_of, same, with, with_gpr, with_vdr}
-use Rattle.machine.specs.Interrupt.{entered_of, vector_for, access_noted, program_noted, noted_of, promoted_of, code_of, halted_of, taken_for, interrupted_of}
+use Rattle.machine.specs.Interrupt.{entered_of, vector_for, access_noted, program_noted, noted_of, promoted_of, code_of, halted_of, cause_of, taken_for, interrupted_of}
 use Rattle.machine.specs.Timer.{event_noted, ticked_of, acts_of, acted_of}
 use Rattle.machine.specs.Result.{next_of, cr0_of, recorded_of, carried_of, overflowed_of, result_of, recorded_double_of, double_result_of}
 use Rattle.machine.specs.Arithmetic.{summed_of, multiplied_of, arithmetic_of}
@@ -53,7 +51,6 @@ use Rattle.machine.specs.declared.state.Reg.{Reg}
 use Rattle.machine.specs.declared.interrupt.Vector.{Vector}
 use Rattle.machine.specs.declared.interrupt.Cause.{Cause}
 use Rattle.machine.specs.declared.interrupt.Halt.{Halt}
-use Rattle.machine.specs.declared.step.Pending.{Pending}
 
 -- a halt code of at most n
 record Coded (n : ℕ) (s : State) : Type 0 where
@@ -64,7 +61,7 @@ picked : {A : Type 0} (P : A → Type 0) {x y : A} (b : Bool) → P x → P y �
 picked P true p q = p
 picked P false p q = q
 
-code_small : (h : Halt) → code_of h ≤ 5
+pub code_small : (h : Halt) → code_of h ≤ 5
 code_small Halt.MachineCheck = lit≤ tt
 code_small Halt.Debug = lit≤ tt
 code_small Halt.Trap = lit≤ tt
@@ -254,35 +251,29 @@ module _ (p : Profile) (s : State) (z : s.halt ≡ 0) where
   five : Coded 5 s
   five = record { halt = rw z (lit≤ tt) }
 
-  outside : {m : List ℕ} (c : Cause) → Left (record { st = interrupted_of p s c; mem = m; past = true })
-  outside c =
+  -- an interrupt halts with 1 or not at all, whether or not the access reached past the memory
+  fault : {m : List ℕ} {past : Bool} (c : Cause) → Left (record { st = interrupted_of p s c; mem = m; past = past })
+  fault c =
       let one : Coded 1 s = record { halt = rw z (lit≤ tt) } in
       record { st = interrupted_coded five (lit≤ tt) p c; past = λ h. interrupted_coded one (lit≤ tt) p c }
 
-  fault : {m : List ℕ} (c : Cause) → Left (record { st = interrupted_of p s c; mem = m; past = false })
-  fault c = untold (interrupted_coded five (lit≤ tt) p c)
-
   load_left : (m : List ℕ) (x : Access) (v rt : ℕ) (update : Bool) (ra ea : ℕ)
       → Left (record { st = loaded_state p s (loaded x v) rt update ra ea; mem = m; past = reaches_past x })
-  load_left m Access.Served v rt update ra ea = untold (next_coded (gpr_coded (updated_coded five update ra ea) rt v))
-  load_left m Access.Unaligned v rt update ra ea = fault (Cause.Alignment ea false)
-  load_left m Access.Outside v rt update ra ea = outside (Cause.DataStorage ea false)
+  load_left m (Ok u) v rt update ra ea = untold (next_coded (gpr_coded (updated_coded five update ra ea) rt v))
+  load_left m (Err f) v rt update ra ea = fault (cause_of f ea false)
 
   load_double_left : (m : List ℕ) (x : Access) (v dt : ℕ) (update : Bool) (ra ea : ℕ)
-      → Left (record { st = loaded_double_state p s (loaded_double x v) dt update ra ea; mem = m; past = reaches_past x })
-  load_double_left m Access.Served v dt update ra ea = untold (next_coded (vdr_coded (updated_coded five update ra ea) dt v))
-  load_double_left m Access.Unaligned v dt update ra ea = fault (Cause.Alignment ea false)
-  load_double_left m Access.Outside v dt update ra ea = outside (Cause.DataStorage ea false)
+      → Left (record { st = loaded_double_state p s (loaded x v) dt update ra ea; mem = m; past = reaches_past x })
+  load_double_left m (Ok u) v dt update ra ea = untold (next_coded (vdr_coded (updated_coded five update ra ea) dt v))
+  load_double_left m (Err f) v dt update ra ea = fault (cause_of f ea false)
 
   store_left : (m : List ℕ) (x : Access) (update : Bool) (ra ea : ℕ) → Left (record { st = stored_state p s x update ra ea; mem = m; past = reaches_past x })
-  store_left m Access.Served update ra ea = untold (next_coded (updated_coded five update ra ea))
-  store_left m Access.Unaligned update ra ea = fault (Cause.Alignment ea true)
-  store_left m Access.Outside update ra ea = outside (Cause.DataStorage ea true)
+  store_left m (Ok u) update ra ea = untold (next_coded (updated_coded five update ra ea))
+  store_left m (Err f) update ra ea = fault (cause_of f ea true)
 
   clear_left : (m : List ℕ) (x : Access) (ea : ℕ) → Left (record { st = cleared_state p s x ea; mem = m; past = reaches_past x })
-  clear_left m Access.Served ea = untold (next_coded five)
-  clear_left m Access.Unaligned ea = fault (Cause.Alignment ea true)
-  clear_left m Access.Outside ea = outside (Cause.DataStorage ea true)
+  clear_left m (Ok u) ea = untold (next_coded five)
+  clear_left m (Err f) ea = fault (cause_of f ea true)
 
 -- an access of a frame halts nothing by itself
 read_halt : (s : State) (ra n v : ℕ) → s.halt ≡ 0 → (read_gpr s ra n v).halt ≡ 0
@@ -297,9 +288,8 @@ part_halt StackOp.Lsku ra (back a) s m z = z
 part_halt StackOp.Stsku ra x s m z = z
 
 part_left : (p : Profile) (s : State) (z : s.halt ≡ 0) (m : List ℕ) (store : Bool) (a : ℕ) (k : Access) {rest : After} → Left rest → Left (goes_on p s m store a k rest)
-part_left p s z m store a Access.Served l = l
-part_left p s z m store a Access.Unaligned l = fault p s z (Cause.Alignment a store)
-part_left p s z m store a Access.Outside l = outside p s z (Cause.DataStorage a store)
+part_left p s z m store a (Ok u) l = l
+part_left p s z m store a (Err f) l = fault p s z (cause_of f a store)
 
 framed_left : (p : Profile) (op : StackOp) (ra sp ea : ℕ) (xs : List Part) (s : State) (m : List ℕ) → s.halt ≡ 0 → Left (framed_of p op ra sp ea xs s m)
 unfolding framed_of
@@ -342,19 +332,18 @@ module _ (p : Profile) (s : State) (z : s.halt ≡ 0) (m : List ℕ) where
   execute_left w (Instr.System i) = untold (system_coded p (five p s z) i)
   execute_left w (Instr.Cache op hint ra rb) = cache_left op ra rb
 
-  decoded_left : (w : ℕ) (d : Decoded) → Left (decoded_of p s m w d)
-  decoded_left w (Decoded.Insn i) = execute_left w i
-  decoded_left w Decoded.Illegal = fault p s z (Cause.Program w false)
+  decoded_left : (w : ℕ) (d : Option Instr) → Left (decoded_of p s m w d)
+  decoded_left w (Some i) = execute_left w i
+  decoded_left w None = fault p s z (Cause.Program w false)
 
   fetched_left : (l : Loaded) → Left (fetched_of p s m l)
-  fetched_left (Loaded.Value w) = decoded_left w (decode_on p w)
-  fetched_left Loaded.Unaligned = fault p s z Cause.InstructionStorage
-  fetched_left Loaded.Outside = outside p s z Cause.InstructionStorage
+  fetched_left (Ok w) = decoded_left w (decode_on p w)
+  fetched_left (Err f) = fault p s z Cause.InstructionStorage
 
-  interruptible_left : (q : Pending) → Left (interruptible_of p s m q)
+  interruptible_left : (q : Option Vector) → Left (interruptible_of p s m q)
   unfolding awake_of running_of
-  interruptible_left (Pending.Take v) = untold (entered_coded (five p s z) p v)
-  interruptible_left Pending.Nothing = picked Left (bit_at s.msr 13) (untold (five p s z)) (fetched_left (fetch_of m s.iar))
+  interruptible_left (Some v) = untold (entered_coded (five p s z) p v)
+  interruptible_left None = picked Left (bit_at s.msr 13) (untold (five p s z)) (fetched_left (fetch_of m s.iar))
 
 ticked_halt : (s : State) (e : ℕ) → s.halt ≡ 0 → (ticked_of s e).halt ≡ 0
 unfolding ticked_of event_noted with

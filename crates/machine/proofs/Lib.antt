@@ -4,3 +4,4 @@ pub mod Registers
 pub mod Quiet
 pub mod Frames
 pub mod Halts
+pub mod Interrupts

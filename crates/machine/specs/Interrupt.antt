@@ -1,11 +1,12 @@
 -- Interrupts: what each sets, promotion and the halt (4.3.3 to 4.3.5, 4.5).
-use Rattle.std.specs.Prelude.{ℕ, ◌+◌, ◌*◌, ◌/◌, ◌^◌, Bool}
+use Rattle.std.specs.Prelude.{ℕ, ◌+◌, ◌*◌, ◌/◌, ◌^◌, Bool, eqb}
 use Rattle.std.specs.Int.Bits.{bit_and}
 use Rattle.word.specs.Bits.{digit, bit_at}
 use Rattle.word.specs.Rotate.{put_at}
 use Rattle.memory.specs.Access.{pick}
 use Rattle.insn.specs.Profile.{column}
 use Rattle.insn.specs.declared.profile.Profile.{Profile}
+use Rattle.memory.specs.declared.access.Fault.{Fault}
 use Rattle.machine.specs.State.{with}
 use Rattle.machine.specs.declared.state.State.{State}
 use Rattle.machine.specs.declared.state.Reg.{Reg}
@@ -85,6 +86,15 @@ code_of Halt.Debug = 2
 code_of Halt.Trap = 3
 code_of Halt.Watchdog = 4
 code_of Halt.Reset = 5
+
+-- what two bits that are not 00 ask for: a halt, where they are 11, or a reset
+abbrev pub asked : ℕ → Halt → Halt
+asked bits h = pick (eqb bits 3) h Halt.Reset
+
+-- what an access that is not served causes
+abbrev pub cause_of : Fault → ℕ → Bool → Cause
+cause_of Fault.Unaligned address store = Cause.Alignment address store
+cause_of Fault.Outside address store = Cause.DataStorage address store
 
 unfoldable pub halted_of : State → Halt → State
 halted_of s h = with s Reg.Halt (code_of h)

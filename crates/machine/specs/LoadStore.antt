@@ -1,22 +1,18 @@
 -- Loads and stores (9.4.38 to 9.4.51, 9.4.82 to 9.4.95). Nothing is written before the access is known to be served (4.3.3).
-use Rattle.std.specs.Prelude.{ℕ, ◌+◌, ◌%◌, ◌^◌, Bool, true, false, List, length}
+use Rattle.std.specs.Prelude.{ℕ, ◌+◌, ◌%◌, ◌^◌, Bool, true, false, List, length, Ok, Err}
 use Rattle.word.specs.Sign.{exts}
 use Rattle.word.specs.Width.{bytes}
 use Rattle.word.specs.declared.width.Width.{Width}
-use Rattle.memory.specs.Access.{pick, access_of, reaches_past}
-use Rattle.memory.specs.Load.{load_of, load_double_of}
+use Rattle.memory.specs.Access.{Access, pick, access_of, reaches_past}
+use Rattle.memory.specs.Load.{Loaded, load_of, load_double_of}
 use Rattle.memory.specs.Store.{stored_of, stored_double_of}
-use Rattle.memory.specs.declared.access.Access.{Access}
-use Rattle.memory.specs.declared.load.Loaded.{Loaded}
-use Rattle.memory.specs.declared.load.LoadedDouble.{LoadedDouble}
 use Rattle.insn.specs.declared.instr.LoadStore.{LoadStore}
 use Rattle.insn.specs.declared.profile.Profile.{Profile}
 use Rattle.machine.specs.State.{gpr_of, base_of, vdr_of, with_gpr, with_vdr}
-use Rattle.machine.specs.Interrupt.{interrupted_of}
+use Rattle.machine.specs.Interrupt.{cause_of, interrupted_of}
 use Rattle.machine.specs.Result.{next_of}
 use Rattle.machine.specs.After.{After}
 use Rattle.machine.specs.declared.state.State.{State}
-use Rattle.machine.specs.declared.interrupt.Cause.{Cause}
 
 -- EA ← (RA|0) + EXTS(D); update forms, where EA ← (RA) + EXTS(D), have no RA 0
 unfoldable pub offset_ea : State → ℕ → ℕ → ℕ
@@ -32,9 +28,8 @@ updated_of s update ra ea = pick update (with_gpr s ra ea) s
 
 -- the value in RT, or the interrupt
 abbrev pub loaded_state : Profile → State → Loaded → ℕ → Bool → ℕ → ℕ → State
-loaded_state p s (Loaded.Value v) rt update ra ea = next_of (with_gpr (updated_of s update ra ea) rt v)
-loaded_state p s Loaded.Unaligned rt update ra ea = interrupted_of p s (Cause.Alignment ea false)
-loaded_state p s Loaded.Outside rt update ra ea = interrupted_of p s (Cause.DataStorage ea false)
+loaded_state p s (Ok v) rt update ra ea = next_of (with_gpr (updated_of s update ra ea) rt v)
+loaded_state p s (Err f) rt update ra ea = interrupted_of p s (cause_of f ea false)
 
 unfoldable pub load_at : Profile → State → List ℕ → Width → ℕ → ℕ → Bool → ℕ → After
 load_at p s m w rt ea update ra =
@@ -45,9 +40,8 @@ load_at p s m w rt ea update ra =
     }
 
 abbrev pub stored_state : Profile → State → Access → Bool → ℕ → ℕ → State
-stored_state p s Access.Served update ra ea = next_of (updated_of s update ra ea)
-stored_state p s Access.Unaligned update ra ea = interrupted_of p s (Cause.Alignment ea true)
-stored_state p s Access.Outside update ra ea = interrupted_of p s (Cause.DataStorage ea true)
+stored_state p s (Ok u) update ra ea = next_of (updated_of s update ra ea)
+stored_state p s (Err f) update ra ea = interrupted_of p s (cause_of f ea true)
 
 -- the last bytes of (RS)
 unfoldable pub store_at : Profile → State → List ℕ → Width → ℕ → ℕ → Bool → ℕ → After
@@ -59,10 +53,9 @@ store_at p s m w rs ea update ra =
     }
 
 -- lvd and lvdu (9.4.46, 9.4.47): the doubleword in DT, or the interrupt; EA is computed first, so RA of lvd may be one of the two
-abbrev pub loaded_double_state : Profile → State → LoadedDouble → ℕ → Bool → ℕ → ℕ → State
-loaded_double_state p s (LoadedDouble.Value v) dt update ra ea = next_of (with_vdr (updated_of s update ra ea) dt v)
-loaded_double_state p s LoadedDouble.Unaligned dt update ra ea = interrupted_of p s (Cause.Alignment ea false)
-loaded_double_state p s LoadedDouble.Outside dt update ra ea = interrupted_of p s (Cause.DataStorage ea false)
+abbrev pub loaded_double_state : Profile → State → Loaded → ℕ → Bool → ℕ → ℕ → State
+loaded_double_state p s (Ok v) dt update ra ea = next_of (with_vdr (updated_of s update ra ea) dt v)
+loaded_double_state p s (Err f) dt update ra ea = interrupted_of p s (cause_of f ea false)
 
 unfoldable pub load_double_at : Profile → State → List ℕ → ℕ → ℕ → Bool → ℕ → After
 load_double_at p s m dt ea update ra =

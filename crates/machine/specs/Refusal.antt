@@ -1,10 +1,9 @@
--- The refusal numbers; 0 is no refusal, 6 belongs to the writing of instructions, and 11 and 12 to lines of assembly.
-use Rattle.std.specs.Prelude.{ℕ, Bool, true, false}
+-- The refusal numbers, of which 0 is no refusal, 6 belongs to the writing of instructions, and 11 and 12 to lines of assembly; and a check.
+use Rattle.std.specs.Prelude.{ℕ, Bool, Result, Ok, Err}
 use Rattle.memory.specs.Access.{pick}
 use Rattle.machine.specs.declared.refusal.Refusal.{Refusal}
 
 abbrev pub number_of : Refusal → ℕ
-number_of Refusal.None = 0
 number_of Refusal.Memory = 1
 number_of Refusal.Iar = 2
 number_of Refusal.Reserved = 3
@@ -18,26 +17,10 @@ number_of Refusal.Twice = 15
 number_of Refusal.End = 16
 number_of Refusal.Count = 17
 
--- whether there is none
-abbrev pub accepts_of : Refusal → Bool
-accepts_of Refusal.None = true
-accepts_of Refusal.Memory = false
-accepts_of Refusal.Iar = false
-accepts_of Refusal.Reserved = false
-accepts_of Refusal.Budget = false
-accepts_of Refusal.Events = false
-accepts_of Refusal.Capture = false
-accepts_of Refusal.Output = false
-accepts_of Refusal.Record = false
-accepts_of Refusal.Outside = false
-accepts_of Refusal.Twice = false
-accepts_of Refusal.End = false
-accepts_of Refusal.Count = false
+-- what a check answers
+abbrev pub Checked : Type 0
+Checked = Result (Unit {0}) Refusal
 
 -- a test, and the refusal where it fails
-abbrev pub unless : Bool → Refusal → Refusal
-unless ok r = pick ok Refusal.None r
-
--- the first refusal that there is
-abbrev pub or_else : Refusal → Refusal → Refusal
-or_else a b = pick (accepts_of a) b a
+abbrev pub unless : Bool → Refusal → Checked
+unless ok r = pick ok (Ok tt) (Err r)

@@ -1,11 +1,12 @@
 -- The bits that each register has (8.10), and acceptance (refusals 2 and 3).
 use Rattle.std.specs.Prelude.{ℕ, ◌%◌, Bool, ◌&&◌, leb, eqb}
+use Rattle.std.specs.Result.{result_and}
 use Rattle.std.specs.Int.Bits.{bit_and}
 use Rattle.word.specs.Logical.{inv}
-use Rattle.memory.specs.Access.{pick, sized_of}
+use Rattle.memory.specs.Access.{sized_of}
 use Rattle.insn.specs.Profile.{column}
 use Rattle.insn.specs.declared.profile.Profile.{Profile}
-use Rattle.machine.specs.Refusal.{unless, or_else}
+use Rattle.machine.specs.Refusal.{Checked, unless}
 use Rattle.machine.specs.State.{contents_of}
 use Rattle.machine.specs.declared.state.State.{State}
 use Rattle.machine.specs.declared.state.Reg.{Reg}
@@ -45,9 +46,9 @@ sound_of p s =
     && clean_of p s Reg.Srr0 && clean_of p s Reg.Srr1 && clean_of p s Reg.Tcr && clean_of p s Reg.Tsr && clean_of p s Reg.Xer && leb s.halt 5
 
 -- an IAR that is no multiple of 4, then a reserved bit or a halt code over 5
-unfoldable pub refusal_of : Profile → State → Refusal
-refusal_of p s = pick (eqb (s.iar % 4) 0) (pick (sound_of p s) Refusal.None Refusal.Reserved) Refusal.Iar
+unfoldable pub check_of : Profile → State → Checked
+check_of p s = result_and (unless (eqb (s.iar % 4) 0) Refusal.Iar) (unless (sound_of p s) Refusal.Reserved)
 
 -- 1, 2, 3: what a run, a step and a capture ask of a state and m bytes of memory
-unfoldable pub start_refusal : Profile → State → ℕ → Refusal
-start_refusal p s m = or_else (unless (sized_of m) Refusal.Memory) (refusal_of p s)
+unfoldable pub check_start : Profile → State → ℕ → Checked
+check_start p s m = result_and (unless (sized_of m) Refusal.Memory) (check_of p s)

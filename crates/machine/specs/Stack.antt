@@ -1,22 +1,24 @@
 -- Stack frames (9.4.45, 9.4.89): several accesses, one after the other. What was read or written before one that is not served stays so (docs/DECISIONS.md D46).
-use Rattle.std.specs.Prelude.{ℕ, ◌+◌, ◌-◌, ◌*◌, ◌/◌, ◌%◌, ◌^◌, Bool, true, false, List, [], ◌∷◌, eqb, ltb, length}
+use Rattle.std.specs.Prelude.{ℕ, ◌+◌, ◌-◌, ◌*◌, ◌/◌, ◌%◌, ◌^◌, Bool, true, false, List, [], ◌∷◌, eqb, ltb, length, Result, Ok, Err}
+use Rattle.std.specs.Result.{result_and}
 use Rattle.std.proofs.lemmas.List.Edits.{sets}
 use Rattle.word.specs.Sign.{exts}
 use Rattle.word.specs.declared.width.Width.{Width}
-use Rattle.memory.specs.Access.{pick, aligned_of, access_of}
-use Rattle.memory.specs.Load.{value_at, double_at}
-use Rattle.memory.specs.Store.{bytes_of, double_bytes}
-use Rattle.memory.specs.declared.access.Access.{Access}
+use Rattle.memory.specs.Access.{Access, pick, aligned_of, access_of, reaches_past}
+use Rattle.memory.specs.Load.{Loaded, value_at, double_at, load_of, load_double_of}
+use Rattle.memory.specs.Store.{bytes_of, double_bytes, stored_of, stored_double_of}
+use Rattle.memory.specs.declared.access.Fault.{Fault}
 use Rattle.insn.specs.Valid.{paired_with}
 use Rattle.insn.specs.declared.instr.StackOp.{StackOp}
 use Rattle.insn.specs.declared.profile.Profile.{Profile}
 use Rattle.machine.specs.State.{gpr_of, vdr_of, with, with_gpr}
-use Rattle.machine.specs.Interrupt.{interrupted_of}
+use Rattle.machine.specs.Interrupt.{cause_of, interrupted_of}
 use Rattle.machine.specs.Result.{next_of}
 use Rattle.machine.specs.After.{After, plain}
 use Rattle.machine.specs.declared.state.State.{State}
 use Rattle.machine.specs.declared.state.Reg.{Reg}
 use Rattle.machine.specs.declared.interrupt.Cause.{Cause}
+use Rattle.machine.specs.declared.stack.Frame.{Frame}
 use Rattle.machine.specs.declared.stack.Missed.{Missed}
 
 -- EA ← (RA) + EXTS(DD ‖ 000)
@@ -27,6 +29,10 @@ frame_ea s ra dd = (gpr_of s ra + exts 16 (dd * 2 ^ 3 % 2 ^ 16)) % 2 ^ 32
 abbrev pub doublewords : StackOp → ℕ → ℕ
 doublewords StackOp.Lsku dd = dd - 1
 doublewords StackOp.Stsku dd = 2 ^ 13 - 1 - dd
+
+-- RA, (RA), EA and n
+abbrev pub frame_of : State → StackOp → ℕ → ℕ → Frame
+frame_of s op ra dd = record { ra = ra; sp = gpr_of s ra; ea = frame_ea s ra dd; n = doublewords op dd }
 
 -- one access of a frame, and its address: a pair by its first GPR, LR, the back pointer
 pub data Part : Type 0 where
@@ -90,9 +96,8 @@ scratch_of StackOp.Stsku sp ea = sp
 
 -- an access: what comes after it, or the interrupt, with that address in EDR
 abbrev pub goes_on : Profile → State → List ℕ → Bool → ℕ → Access → After → After
-goes_on p s m store a Access.Served rest = rest
-goes_on p s m store a Access.Unaligned rest = plain (interrupted_of p s (Cause.Alignment a store)) m
-goes_on p s m store a Access.Outside rest = record { st = interrupted_of p s (Cause.DataStorage a store); mem = m; past = true }
+goes_on p s m store a (Ok u) rest = rest
+goes_on p s m store a (Err f) rest = record { st = interrupted_of p s (cause_of f a store); mem = m; past = reaches_past {A = Unit} (Err f) }
 
 -- one access after the other; then EDR and (RA) ← EA
 unfoldable pub framed_of : Profile → StackOp → ℕ → ℕ → ℕ → List Part → State → List ℕ → After
@@ -109,29 +114,58 @@ stack_of p s m op ra dd =
     pick (aligned_of sp 8) (framed_of p op ra sp ea (parts_of op sp ea (doublewords op dd)) s m)
     (plain (interrupted_of p s (Cause.Alignment sp (stores_of op))) m)
 
--- the first access that is not served, with its address
-abbrev pub missed_at : Access → ℕ → Missed → Missed
-missed_at Access.Served a rest = rest
-missed_at Access.Unaligned a rest = Missed.Unaligned a
-missed_at Access.Outside a rest = Missed.Outside a
+-- an access, or why it is not served and its address
+abbrev pub served_at : Access → ℕ → Result Unit Missed
+served_at (Ok u) a = Ok tt
+served_at (Err f) a = Err (record { fault = f; address = a })
 
-unfoldable pub missed_of : ℕ → List Part → Missed
-missed_of len [] = Missed.Nothing
-missed_of len (x ∷ xs) = missed_at (access_of len (address_of x) (size_of x)) (address_of x) (missed_of len xs)
+-- all that are served, or the first that is not
+unfoldable pub parts_served : ℕ → List Part → Result Unit Missed
+parts_served len [] = Ok tt
+parts_served len (x ∷ xs) = result_and (served_at (access_of len (address_of x) (size_of x)) (address_of x)) (parts_served len xs)
 
 -- of a whole frame with (RA), EA and n, in so many bytes of memory
-unfoldable pub frame_missed : ℕ → StackOp → ℕ → ℕ → ℕ → Missed
-frame_missed len op sp ea n = pick (aligned_of sp 8) (missed_of len (parts_of op sp ea n)) (Missed.Unaligned sp)
+unfoldable pub frame_served : ℕ → StackOp → ℕ → ℕ → ℕ → Result Unit Missed
+frame_served len op sp ea n = pick (aligned_of sp 8) (parts_served len (parts_of op sp ea n)) (Err (record { fault = Fault.Unaligned; address = sp }))
 
--- it fell outside
-abbrev pub missed_past : Missed → Bool
-missed_past Missed.Nothing = false
-missed_past (Missed.Unaligned a) = false
-missed_past (Missed.Outside a) = true
+-- one is not that fell outside
+abbrev pub frame_past : Result Unit Missed → Bool
+frame_past (Ok u) = false
+frame_past (Err missed) = reaches_past {A = Unit} (Err missed.fault)
 
--- the same of its pairs, before what is known of the rest; this serves code
-abbrev pub pairs_missed : ℕ → ℕ → ℕ → Missed → Missed
-pairs_missed len top n rest =
-    let first = (top + (2 ^ 32 - 8)) % 2 ^ 32 in
-    let second = (top + (2 ^ 32 - 16)) % 2 ^ 32 in
-    pick (ltb 0 n) (missed_at (access_of len first 8) first (pick (ltb 1 n) (missed_at (access_of len second 8) second rest) rest)) rest
+-- one access of lsku, by what it loads: the state that it leaves, or the state after its interrupt
+abbrev pub loads_on : Profile → State → ℕ → (ℕ → State) → Loaded → Result State State
+loads_on p s a put (Ok v) = Ok (put v)
+loads_on p s a put (Err f) = Err (interrupted_of p s (cause_of f a false))
+
+abbrev pub part_popped : Profile → ℕ → Part → List ℕ → State → Result State State
+part_popped p ra (pair n a) m s = loads_on p s a (λ v. read_gpr (read_gpr s ra n (v / 2 ^ 32)) ra (paired_with n) (v % 2 ^ 32)) (load_double_of m a)
+part_popped p ra (link a) m s = loads_on p s a (λ v. with s Reg.Lr v) (load_of m a Width.Word)
+part_popped p ra (back a) m s = loads_on p s a (λ v. s) (load_of m a Width.Word)
+
+-- all accesses of lsku in a row, without EDR and RA at the end
+abbrev pub then : Result State State → (State → Result State State) → Result State State
+then (Ok t) f = f t
+then (Err t) f = Err t
+
+unfoldable pub parts_popped : Profile → ℕ → List Part → List ℕ → State → Result State State
+parts_popped p ra [] m s = Ok s
+parts_popped p ra (x ∷ xs) m s = then (part_popped p ra x m s) (parts_popped p ra xs m)
+
+-- what one access of stsku leaves in memory, served or not
+abbrev pub part_pushed : ℕ → Part → State → List ℕ → List ℕ
+part_pushed rs (pair n a) s m = stored_double_of m a (vdr_of s n)
+part_pushed rs (link a) s m = stored_of m a Width.Word s.lr
+part_pushed rs (back a) s m = stored_of m a Width.Word (gpr_of s rs)
+
+-- the memory b after an access, or what comes after it leaves
+abbrev pub stores_on : Result Unit Missed → List ℕ → List ℕ → List ℕ
+stores_on (Ok u) b rest = rest
+stores_on (Err missed) b rest = b
+
+-- and all accesses of stsku in a row
+unfoldable pub parts_pushed : ℕ → List Part → State → List ℕ → List ℕ
+parts_pushed rs [] s m = m
+parts_pushed rs (x ∷ xs) s m =
+    stores_on (served_at (access_of (length m) (address_of x) (size_of x)) (address_of x)) (part_pushed rs x s m)
+    (parts_pushed rs xs s (part_pushed rs x s m))

@@ -12,7 +12,7 @@ use Rattle.insn.specs.Profile.{is42x}
 use Rattle.insn.specs.declared.profile.Profile.{Profile}
 use Rattle.machine.specs.State.{gpr_of, with, contents_of}
 use Rattle.machine.specs.Register.{defined_of}
-use Rattle.machine.specs.Interrupt.{interrupted_of, halted_of}
+use Rattle.machine.specs.Interrupt.{interrupted_of, halted_of, asked}
 use Rattle.machine.specs.Timer.{rises}
 use Rattle.machine.specs.Result.{next_of, result_of}
 use Rattle.machine.specs.declared.state.State.{State}
@@ -51,7 +51,7 @@ read_of s n = pick (eqb n 308) (put_at s.dbcr 2 3 0) (contents_of s (spr_of n))
 
 -- DBCR[RST] acts when it is written: 01 and 10 ask for a reset, 11 halts (7.4.2)
 unfoldable pub reset_of : State → ℕ → State
-reset_of s rst = pick (eqb rst 0) s (halted_of s (pick (eqb rst 3) Halt.Debug Halt.Reset))
+reset_of s rst = pick (eqb rst 0) s (halted_of s (asked rst Halt.Debug))
 
 -- the other fields are stored as written, RST as 00
 unfoldable pub dbcr_written : Profile → State → ℕ → State

@@ -4,9 +4,8 @@ use Rattle.std.specs.Prelude.{ℕ, ◌+◌, ◌-◌, ◌%◌, ◌^◌, Bool, not
 use Rattle.std.specs.Int.Bits.{bit_or}
 use Rattle.word.specs.Bits.{digit, bit_at, bits_at, field_at}
 use Rattle.word.specs.Rotate.{put_at}
-use Rattle.memory.specs.Access.{pick}
 use Rattle.machine.specs.State.{with}
-use Rattle.machine.specs.Interrupt.{halted_of}
+use Rattle.machine.specs.Interrupt.{halted_of, asked}
 use Rattle.machine.specs.declared.state.State.{State}
 use Rattle.machine.specs.declared.state.Reg.{Reg}
 use Rattle.machine.specs.declared.interrupt.Halt.{Halt}
@@ -66,4 +65,4 @@ acts_of s e = watchdog_event s.tcr e && bit_at s.tsr 0 && bit_at s.tsr 1 && not 
 unfoldable pub acted_of : State → State
 acted_of s =
     let wrc = bits_at s.tcr 2 3 in
-    halted_of (with (with s Reg.Tsr (put_at s.tsr 2 3 wrc)) Reg.Tcr (put_at s.tcr 2 3 0)) (pick (eqb wrc 3) Halt.Watchdog Halt.Reset)
+    halted_of (with (with s Reg.Tsr (put_at s.tsr 2 3 wrc)) Reg.Tcr (put_at s.tcr 2 3 0)) (asked wrc Halt.Watchdog)

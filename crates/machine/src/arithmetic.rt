@@ -31,13 +31,7 @@ fn one_sum(op: ArithOneOp, a: u32, ca: bool) -> Sum
 fn one_carries(op: ArithOneOp) -> bool
     ensures { result ≡ one_carries op }
 {
-    match op {
-        ArithOneOp::Addme => true,
-        ArithOneOp::Addze => true,
-        ArithOneOp::Subfme => true,
-        ArithOneOp::Subfze => true,
-        ArithOneOp::Neg => false,
-    }
+    !matches!(op, ArithOneOp::Neg)
 }
 
 fn product_of(sign: Sign, a: u32, b: u32) -> u32
@@ -51,6 +45,7 @@ fn product_of(sign: Sign, a: u32, b: u32) -> u32
 
 impl State {
     // A sum in RT, with CA, OV and CR0 as asked.
+    #[tactic(auto, unfolding(crate::specs::Arithmetic::summed_of))]
     fn finish_sum(self, rt: u8, sum: Sum, carries: bool, oe: bool, rc: bool) -> State
         ensures { result ≡ summed_of self rt sum carries oe rc }
     {
@@ -67,6 +62,7 @@ impl State {
     }
 
     // addi and addis add to (RA|0), the others to (RA) or its complement.
+    #[tactic(auto, unfolding(crate::specs::Arithmetic::summed_of, crate::specs::Result::carried_of, crate::specs::Result::overflowed_of))]
     fn arith_imm(self, op: ArithImmOp, rt: u8, ra: u8, si: u16) -> State
         ensures { result ≡ summed_of self rt (imm_sum op (base_of self ra) (gpr_of self ra) si) (imm_carries op) false (imm_records op) }
     {
@@ -89,7 +85,7 @@ impl State {
         self.finish_sum(rt, add(got.a, got.b, ca), carries, oe, rc)
     }
 
-    // The sum of the complement of (RA), (RB) and a carry.
+    // The sum of the complement of (RA), (RB) and a carry: a function of its own, since the mnemonic is to choose before registers are read (docs/SPEED.md).
     fn sub_regs(self, rt: u8, ra: u8, rb: u8, ca: bool, carries: bool, oe: bool, rc: bool) -> State
         ensures { result ≡ summed_of self rt (sum_of (inv (gpr_of self ra)) (gpr_of self rb) ca) carries oe rc }
     {
@@ -134,6 +130,7 @@ impl State {
     }
 
     // A product in RT, with OV and CR0 as asked.
+    #[tactic(auto, unfolding(crate::specs::Arithmetic::multiplied_of))]
     fn finish_product(self, rt: u8, product: Product, oe: bool, rc: bool) -> State
         ensures { result ≡ multiplied_of self rt product oe rc }
     {
@@ -148,6 +145,7 @@ impl State {
         self.finish_product(rt, multiply(got.a, got.b), oe, rc)
     }
 
+    #[tactic(auto, unfolding(crate::specs::Arithmetic::arithmetic_of))]
     pub fn arithmetic(self, i: Arithmetic) -> State
         ensures { result ≡ arithmetic_of self i }
     {

@@ -12,6 +12,7 @@ use word::shift::select;
 use word::sign::{extend_26, extend_half};
 use word::sum::plus;
 
+#[tactic(auto, unfolding(crate::specs::Branch::ctr_after))]
 fn ctr_after(ctr: u32, bo: u8) -> u32
     ensures { result ≡ ctr_after ctr bo }
 {
@@ -19,6 +20,7 @@ fn ctr_after(ctr: u32, bo: u8) -> u32
 }
 
 // Whether the branch is taken, by BO, BI, the new CTR and CR.
+#[tactic(auto, unfolding(crate::specs::Branch::taken_of))]
 fn taken(bo: u8, bi: u8, ctr: u32, cr: u32) -> bool
     ensures { result ≡ taken_of bo bi ctr cr }
 {
@@ -37,6 +39,7 @@ impl State {
         plus(select(aa, 0, self.iar), d)
     }
 
+    #[tactic(auto, unfolding(crate::specs::Branch::linked_of))]
     fn link(self, lk: bool) -> State
         ensures { result ≡ linked_of self lk }
     {
@@ -47,6 +50,7 @@ impl State {
         }
     }
 
+    #[tactic(auto, unfolding(crate::specs::Branch::branched_of))]
     fn branch_if(self, bo: u8, bi: u8, target: u32, lk: bool) -> State
         ensures { result ≡ branched_of self bo bi target lk }
     {
@@ -71,6 +75,7 @@ impl State {
         }
     }
 
+    #[tactic(auto, unfolding(crate::specs::Branch::branch_of))]
     pub fn branch(self, i: Branch) -> State
         ensures { result ≡ branch_of self i }
     {
@@ -80,13 +85,7 @@ impl State {
                 let to = self.target(aa, extend_half(bd % 0x4000 * 4));
                 self.branch_if(bo, bi, to, lk)
             }
-            Branch::Register {
-                op,
-                bo,
-                bi,
-                bh: _,
-                lk,
-            } => {
+            Branch::Register { op, bo, bi, lk, .. } => {
                 let to = self.register_target(op);
                 self.branch_if(bo, bi, to, lk)
             }

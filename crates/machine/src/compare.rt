@@ -27,6 +27,7 @@ fn extend(sign: Sign, imm: u16) -> u32
 }
 
 impl State {
+    #[tactic(auto, unfolding(crate::specs::Compare::compared_of))]
     fn compare_with(self, sign: Sign, ra: u8, b: u32) -> State
         ensures { result ≡ compared_of self sign ra b }
     {
@@ -34,6 +35,7 @@ impl State {
         self.set_cr0(v).next()
     }
 
+    #[tactic(auto, unfolding(crate::specs::Compare::compare_of))]
     pub fn compare(self, i: Compare) -> State
         ensures { result ≡ compare_of self i }
     {

@@ -2,10 +2,11 @@
 ghost use Rattle.std.specs.Prelude.{◌≡◌, ◌<◌};
 ghost use Rattle.machine.specs.declared.interrupt.Cause.{Cause};
 ghost use Rattle.machine.specs.declared.interrupt.Vector.{Vector};
-ghost use Rattle.machine.specs.Interrupt.{offset_of, vector_at, kept_of, entered_of, vector_for, access_noted, program_noted, promotion_of, promoted_of, code_of, halted_of, taken_for, interrupted_of};
+ghost use Rattle.machine.specs.Interrupt.{offset_of, vector_at, kept_of, entered_of, vector_for, access_noted, program_noted, promotion_of, promoted_of, halted_of, asked, cause_of, taken_for, interrupted_of};
 
 use crate::state::{Reg, State};
-use insn::profile::Profile;
+use insn::profile::{Profile, column};
+use memory::access::Fault;
 use word::bits::{Bit, bit_at, digit_of};
 use word::rotate::put_at;
 
@@ -32,33 +33,23 @@ pub enum Cause {
     Program { word: u32, trap: bool },
 }
 
-// Why a core halts.
+// Why a core halts, by its code.
 #[derive(Clone, Copy)]
 pub enum Halt {
-    MachineCheck,
+    MachineCheck = 1,
     Debug,
     Trap,
     Watchdog,
     Reset,
 }
 
-// The one that the cores have apart.
-fn machine_check(profile: Profile) -> u32
-    ensures value { result ≡ offset_of profile Vector.MachineCheck }
-    ensures small { result < 512 }
-{
-    match profile {
-        Profile::Ppe42 => 0x000,
-        Profile::Ppe42x => 0x020,
-    }
-}
-
+// Tables of the manual, here and below in `kept` and `promotion`: no two rows count on from each other.
 fn offset(profile: Profile, v: Vector) -> u32
     ensures value { result ≡ offset_of profile v }
     ensures small { result < 512 }
 {
     match v {
-        Vector::MachineCheck => machine_check(profile),
+        Vector::MachineCheck => column(profile, 0x000, 0x020),
         Vector::DataStorage => 0x060,
         Vector::InstructionStorage => 0x080,
         Vector::External => 0x0A0,
@@ -82,14 +73,7 @@ fn kept(v: Vector) -> u32
 {
     match v {
         Vector::MachineCheck => 0x0070_0000,
-        Vector::DataStorage => 0x0070_1000,
-        Vector::InstructionStorage => 0x0070_1000,
-        Vector::External => 0x0070_1000,
-        Vector::Alignment => 0x0070_1000,
-        Vector::Program => 0x0070_1000,
-        Vector::Decrementer => 0x0070_1000,
-        Vector::FixedInterval => 0x0070_1000,
-        Vector::Watchdog => 0x0070_1000,
+        _ => 0x0070_1000,
     }
 }
 
@@ -97,16 +81,10 @@ fn vector_for(c: Cause) -> Vector
     ensures { result ≡ vector_for c }
 {
     match c {
-        Cause::DataStorage {
-            address: _,
-            store: _,
-        } => Vector::DataStorage,
+        Cause::DataStorage { .. } => Vector::DataStorage,
         Cause::InstructionStorage => Vector::InstructionStorage,
-        Cause::Alignment {
-            address: _,
-            store: _,
-        } => Vector::Alignment,
-        Cause::Program { word: _, trap: _ } => Vector::Program,
+        Cause::Alignment { .. } => Vector::Alignment,
+        Cause::Program { .. } => Vector::Program,
     }
 }
 
@@ -114,33 +92,33 @@ fn promotion(c: Cause) -> u32
     ensures { result ≡ promotion_of c }
 {
     match c {
-        Cause::DataStorage {
-            address: _,
-            store: _,
-        } => 7,
+        Cause::DataStorage { .. } => 7,
         Cause::InstructionStorage => 5,
-        Cause::Alignment {
-            address: _,
-            store: _,
-        } => 6,
-        Cause::Program { word: _, trap: _ } => 4,
+        Cause::Alignment { .. } => 6,
+        Cause::Program { .. } => 4,
     }
 }
 
-fn code(h: Halt) -> u32
-    ensures { result ≡ code_of h }
+// What two bits that are not 00 ask for: a halt, where they are 11, or a reset.
+pub fn asked(bits: u32, halt: Halt) -> Halt
+    ensures { result ≡ asked bits halt }
 {
-    match h {
-        Halt::MachineCheck => 1,
-        Halt::Debug => 2,
-        Halt::Trap => 3,
-        Halt::Watchdog => 4,
-        Halt::Reset => 5,
+    if bits == 3 { halt } else { Halt::Reset }
+}
+
+// The cause that an access has which is not served.
+pub fn cause_of(fault: Fault, address: u32, store: bool) -> Cause
+    ensures { result ≡ cause_of fault address store }
+{
+    match fault {
+        Fault::Unaligned => Cause::Alignment { address, store },
+        Fault::Outside => Cause::DataStorage { address, store },
     }
 }
 
 impl State {
     // SRR0 and SRR1 take IAR and MSR, MSR is cleared but for what is kept, and IAR goes to the vector.
+    #[tactic(auto, unfolding(crate::specs::Interrupt::entered_of))]
     pub fn enter(self, profile: Profile, v: Vector) -> State
         ensures { result ≡ entered_of profile self v }
     {
@@ -153,7 +131,8 @@ impl State {
             .set(Reg::Iar, to)
     }
 
-    // ISR[ST] and the data address in EDR.
+    // ISR[ST] and the data address in EDR; `note_program` sets another bit, which the manual names apart.
+    #[tactic(auto, unfolding(crate::specs::Interrupt::access_noted))]
     fn note_access(self, address: u32, store: bool) -> State
         ensures { result ≡ access_noted self address store }
     {
@@ -162,6 +141,7 @@ impl State {
     }
 
     // ISR[PTR] and the word in EDR.
+    #[tactic(auto, unfolding(crate::specs::Interrupt::program_noted))]
     fn note_program(self, word: u32, trap: bool) -> State
         ensures { result ≡ program_noted self word trap }
     {
@@ -170,6 +150,7 @@ impl State {
     }
 
     // ISR[MFE] and ISR[MCS] of an interrupt that becomes a machine check.
+    #[tactic(auto, unfolding(crate::specs::Interrupt::promoted_of))]
     fn promote(self, c: Cause) -> State
         ensures { result ≡ promoted_of self c }
     {
@@ -178,13 +159,15 @@ impl State {
         self.set(Reg::Isr, isr)
     }
 
+    #[tactic(auto, unfolding(crate::specs::Interrupt::halted_of))]
     pub fn stop(self, h: Halt) -> State
         ensures { result ≡ halted_of self h }
     {
-        self.set(Reg::Halt, code(h))
+        self.set(Reg::Halt, h as u32)
     }
 
     // A synchronous interrupt whose ISR and EDR are noted: taken, promoted to a machine check, or halting.
+    #[tactic(auto, unfolding(crate::specs::Interrupt::taken_for))]
     fn take(self, profile: Profile, c: Cause) -> State
         ensures { result ≡ taken_for profile self c }
     {
@@ -197,26 +180,23 @@ impl State {
         self.enter(profile, vector_for(c)).stop(Halt::MachineCheck)
     }
 
-    pub fn data_storage(self, profile: Profile, address: u32, store: bool) -> State
-        ensures { result ≡ interrupted_of profile self (Cause.DataStorage address store) }
-    {
-        self.note_access(address, store)
-            .take(profile, Cause::DataStorage { address, store })
-    }
-
+    #[tactic(auto, unfolding(crate::specs::Interrupt::interrupted_of, crate::specs::Interrupt::noted_of))]
     pub fn instruction_storage(self, profile: Profile) -> State
         ensures { result ≡ interrupted_of profile self Cause.InstructionStorage }
     {
         self.take(profile, Cause::InstructionStorage)
     }
 
-    pub fn alignment(self, profile: Profile, address: u32, store: bool) -> State
-        ensures { result ≡ interrupted_of profile self (Cause.Alignment address store) }
+    // The interrupt of an access that is not served.
+    #[tactic(auto, using(crate::proofs::Interrupts::fault_noted), unfolding(crate::specs::Interrupt::interrupted_of))]
+    pub fn faulted(self, profile: Profile, fault: Fault, address: u32, store: bool) -> State
+        ensures { result ≡ interrupted_of profile self (cause_of fault address store) }
     {
         self.note_access(address, store)
-            .take(profile, Cause::Alignment { address, store })
+            .take(profile, cause_of(fault, address, store))
     }
 
+    #[tactic(auto, unfolding(crate::specs::Interrupt::interrupted_of, crate::specs::Interrupt::noted_of))]
     pub fn program(self, profile: Profile, word: u32, trap: bool) -> State
         ensures { result ≡ interrupted_of profile self (Cause.Program word trap) }
     {

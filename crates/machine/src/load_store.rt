@@ -5,19 +5,20 @@ ghost use Rattle.machine.specs.LoadStore.{offset_ea, indexed_ea, updated_of, loa
 use crate::state::State;
 use insn::instr::LoadStore;
 use insn::profile::Profile;
-use memory::access::Access;
-use memory::load::{Loaded, LoadedDouble};
+use memory::access::Fault;
 use memory::{load, store};
 use word::sign::extend_half;
 use word::sum::plus;
 
 impl State {
+    #[tactic(auto, unfolding(crate::specs::LoadStore::offset_ea))]
     pub fn offset_ea(self, ra: u8, d: u16) -> u32
         ensures { result ≡ offset_ea self ra d }
     {
         plus(self.base(ra), extend_half(d))
     }
 
+    #[tactic(auto, unfolding(crate::specs::LoadStore::indexed_ea))]
     pub fn indexed_ea(self, ra: u8, rb: u8) -> u32
         ensures { result ≡ indexed_ea self ra rb }
     {
@@ -25,6 +26,7 @@ impl State {
     }
 
     // EA in RA, in update forms.
+    #[tactic(auto, unfolding(crate::specs::LoadStore::updated_of))]
     fn update(self, update: bool, ra: u8, ea: u32) -> State
         ensures { result ≡ updated_of self update ra ea }
     {
@@ -35,7 +37,7 @@ impl State {
     pub fn loaded(
         self,
         profile: Profile,
-        got: Loaded,
+        got: Result<u32, Fault>,
         rt: u8,
         update: bool,
         ra: u8,
@@ -44,27 +46,32 @@ impl State {
         ensures { result ≡ loaded_state profile self got rt update ra ea }
     {
         match got {
-            Loaded::Value(v) => self.update(update, ra, ea).set_reg(rt, v).next(),
-            Loaded::Unaligned => self.alignment(profile, ea, false),
-            Loaded::Outside => self.data_storage(profile, ea, false),
+            Ok(v) => self.update(update, ra, ea).set_reg(rt, v).next(),
+            Err(fault) => self.faulted(profile, fault, ea, false),
         }
     }
 
-    pub fn stored(self, profile: Profile, done: Access, update: bool, ra: u8, ea: u32) -> State
+    pub fn stored(
+        self,
+        profile: Profile,
+        done: Result<(), Fault>,
+        update: bool,
+        ra: u8,
+        ea: u32,
+    ) -> State
         ensures { result ≡ stored_state profile self done update ra ea }
     {
         match done {
-            Access::Served => self.update(update, ra, ea).next(),
-            Access::Unaligned => self.alignment(profile, ea, true),
-            Access::Outside => self.data_storage(profile, ea, true),
+            Ok(()) => self.update(update, ra, ea).next(),
+            Err(fault) => self.faulted(profile, fault, ea, true),
         }
     }
 
-    // The doubleword in DT, or the interrupt.
+    // The doubleword in DT, or the interrupt. A trait of u32 and u64 with its law would be longer than the two functions.
     pub fn loaded_double(
         self,
         profile: Profile,
-        got: LoadedDouble,
+        got: Result<u64, Fault>,
         dt: u8,
         update: bool,
         ra: u8,
@@ -73,12 +80,12 @@ impl State {
         ensures { result ≡ loaded_double_state profile self got dt update ra ea }
     {
         match got {
-            LoadedDouble::Value(v) => self.update(update, ra, ea).set_vdr(dt, v).next(),
-            LoadedDouble::Unaligned => self.alignment(profile, ea, false),
-            LoadedDouble::Outside => self.data_storage(profile, ea, false),
+            Ok(v) => self.update(update, ra, ea).set_vdr(dt, v).next(),
+            Err(fault) => self.faulted(profile, fault, ea, false),
         }
     }
 
+    #[tactic(auto, unfolding(crate::specs::LoadStore::load_double_at))]
     pub fn load_double(
         self,
         profile: Profile,
@@ -94,6 +101,7 @@ impl State {
         self.loaded_double(profile, load::load_double(mem, ea), dt, update, ra, ea)
     }
 
+    #[tactic(auto, unfolding(crate::specs::LoadStore::store_double_at))]
     pub fn store_double(
         self,
         profile: Profile,
@@ -110,6 +118,7 @@ impl State {
         self.stored(profile, done, update, ra, ea)
     }
 
+    #[tactic(auto, unfolding(crate::specs::LoadStore::load_store_of, crate::specs::LoadStore::load_at, crate::specs::LoadStore::store_at, crate::specs::LoadStore::load_double_at))]
     pub fn load_store(self, profile: Profile, mem: &mut [u8], i: LoadStore) -> State
         ensures { (result ≡ (load_store_of profile self mem.old i).st) × (mem.new ≡ (load_store_of profile self mem.old i).mem) }
     {

@@ -27,14 +27,7 @@ fn logic_imm(op: LogicImmOp, s: u32, ui: u16) -> u32
 fn logic_records(op: LogicImmOp) -> bool
     ensures { result ≡ logic_records op }
 {
-    match op {
-        LogicImmOp::AndiDot => true,
-        LogicImmOp::AndisDot => true,
-        LogicImmOp::Ori => false,
-        LogicImmOp::Oris => false,
-        LogicImmOp::Xori => false,
-        LogicImmOp::Xoris => false,
-    }
+    matches!(op, LogicImmOp::AndiDot | LogicImmOp::AndisDot)
 }
 
 // The result of and, andc, eqv, nand, nor, or, orc and xor, of (RS) and (RB).
@@ -87,6 +80,7 @@ impl State {
         self.finish(ra, v, rc)
     }
 
+    #[tactic(auto, unfolding(crate::specs::Logical::logical_of))]
     pub fn logical(self, i: Logical) -> State
         ensures { result ≡ logical_of self i }
     {

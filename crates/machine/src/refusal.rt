@@ -1,10 +1,9 @@
 // Why bad input is refused, and the number that stands for it.
 ghost use Rattle.std.specs.Prelude.{◌≡◌};
-ghost use Rattle.machine.specs.Refusal.{number_of, accepts_of};
+ghost use Rattle.machine.specs.Refusal.{number_of};
 
-#[derive(Clone, Copy)]
+#[derive(Clone, Copy, PartialEq, Eq, Debug)]
 pub enum Refusal {
-    None,
     Memory,
     Iar,
     Reserved,
@@ -19,43 +18,23 @@ pub enum Refusal {
     Count,
 }
 
-pub fn number(r: Refusal) -> u32
-    ensures { result ≡ number_of r }
-{
-    match r {
-        Refusal::None => 0,
-        Refusal::Memory => 1,
-        Refusal::Iar => 2,
-        Refusal::Reserved => 3,
-        Refusal::Budget => 4,
-        Refusal::Events => 5,
-        Refusal::Capture => 7,
-        Refusal::Output => 8,
-        Refusal::Record => 13,
-        Refusal::Outside => 14,
-        Refusal::Twice => 15,
-        Refusal::End => 16,
-        Refusal::Count => 17,
-    }
-}
+impl From<Refusal> for u32 {
+    ghost from_gives = { λ r number. number ≡ number_of r };
 
-// Whether there is none.
-pub fn accepts(r: Refusal) -> bool
-    ensures { result ≡ accepts_of r }
-{
-    match r {
-        Refusal::None => true,
-        Refusal::Memory => false,
-        Refusal::Iar => false,
-        Refusal::Reserved => false,
-        Refusal::Budget => false,
-        Refusal::Events => false,
-        Refusal::Capture => false,
-        Refusal::Output => false,
-        Refusal::Record => false,
-        Refusal::Outside => false,
-        Refusal::Twice => false,
-        Refusal::End => false,
-        Refusal::Count => false,
+    fn from(r: Refusal) -> u32 {
+        match r {
+            Refusal::Memory => 1,
+            Refusal::Iar => 2,
+            Refusal::Reserved => 3,
+            Refusal::Budget => 4,
+            Refusal::Events => 5,
+            Refusal::Capture => 7,
+            Refusal::Output => 8,
+            Refusal::Record => 13,
+            Refusal::Outside => 14,
+            Refusal::Twice => 15,
+            Refusal::End => 16,
+            Refusal::Count => 17,
+        }
     }
 }

@@ -1,7 +1,7 @@
 // What each register holds and which of its bits are defined.
 ghost use Rattle.std.specs.Prelude.{◌≡◌};
 ghost use Rattle.machine.specs.State.{contents_of};
-ghost use Rattle.machine.specs.Register.{defined_of, clean_of, sound_of, refusal_of, start_refusal};
+ghost use Rattle.machine.specs.Register.{defined_of, clean_of, sound_of, check_of, check_start};
 
 use crate::refusal::Refusal;
 use crate::state::{Reg, State};
@@ -65,6 +65,7 @@ impl State {
     }
 
     // Whether no reserved bit of a register is set.
+    #[tactic(auto, unfolding(crate::specs::Register::clean_of))]
     fn clean(self, profile: Profile, r: Reg) -> bool
         ensures { result ≡ clean_of profile self r }
     {
@@ -72,6 +73,7 @@ impl State {
     }
 
     // Whether no reserved bit is set and the halt code is one of 0 to 5.
+    #[tactic(auto, unfolding(crate::specs::Register::sound_of))]
     fn sound(self, profile: Profile) -> bool
         ensures { result ≡ sound_of profile self }
     {
@@ -89,28 +91,30 @@ impl State {
             & (self.halt <= 5)
     }
 
-    // The refusal that this state gets, or none where a run accepts it.
-    pub fn refusal(self, profile: Profile) -> Refusal
-        ensures { result ≡ refusal_of profile self }
+    // Why a run does not accept this state: Iar, Reserved.
+    #[tactic(auto, unfolding(crate::specs::Register::check_of))]
+    pub fn check(self, profile: Profile) -> Result<(), Refusal>
+        ensures { result ≡ check_of profile self }
     {
         if self.iar % 4 != 0 {
-            return Refusal::Iar;
+            return Err(Refusal::Iar);
         }
         if self.sound(profile) {
-            Refusal::None
+            Ok(())
         } else {
-            Refusal::Reserved
+            Err(Refusal::Reserved)
         }
     }
 
-    // The refusal that this state gets with so many bytes of memory: 1, 2, 3.
-    pub fn start_refusal(self, profile: Profile, size: usize) -> Refusal
-        ensures { result ≡ start_refusal profile self size }
+    // The same with so many bytes of memory: Memory, Iar, Reserved.
+    #[tactic(auto, unfolding(crate::specs::Register::check_start))]
+    pub fn check_start(self, profile: Profile, size: usize) -> Result<(), Refusal>
+        ensures { result ≡ check_start profile self size }
     {
         if sized(size) {
-            self.refusal(profile)
+            self.check(profile)
         } else {
-            Refusal::Memory
+            Err(Refusal::Memory)
         }
     }
 }

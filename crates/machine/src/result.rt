@@ -18,6 +18,7 @@ impl State {
     }
 
     // On to the next instruction.
+    #[tactic(auto, unfolding(crate::specs::Result::next_of))]
     pub fn next(self) -> State
         ensures { result ≡ next_of self }
     {
@@ -38,6 +39,7 @@ impl State {
         bit_at(self.xer, Bit(2))
     }
 
+    #[tactic(auto, unfolding(crate::specs::Result::cr0_of))]
     pub fn set_cr0(self, v: u32) -> State
         ensures { result ≡ cr0_of self v }
     {
@@ -45,6 +47,7 @@ impl State {
     }
 
     // CR0 after a result, if the instruction records it.
+    #[tactic(auto, unfolding(crate::specs::Result::recorded_of))]
     fn record_result(self, v: u32, rc: bool) -> State
         ensures { result ≡ recorded_of self v rc }
     {
@@ -56,6 +59,7 @@ impl State {
     }
 
     // XER[CA], if the instruction writes it.
+    #[tactic(auto, unfolding(crate::specs::Result::carried_of))]
     pub fn set_carry(self, writes: bool, ca: bool) -> State
         ensures { result ≡ carried_of self writes ca }
     {
@@ -68,6 +72,7 @@ impl State {
     }
 
     // XER[OV] both ways, and XER[SO] set with it, with OE.
+    #[tactic(auto, unfolding(crate::specs::Result::overflowed_of))]
     pub fn set_overflow(self, oe: bool, ov: bool) -> State
         ensures { result ≡ overflowed_of self oe ov }
     {
@@ -81,13 +86,15 @@ impl State {
     }
 
     // The result in its register, CR0 with Rc, and on to the next instruction.
+    #[tactic(auto, unfolding(crate::specs::Result::result_of))]
     pub fn finish(self, r: u8, v: u32, rc: bool) -> State
         ensures { result ≡ result_of self r v rc }
     {
         self.record_result(v, rc).set_reg(r, v).next()
     }
 
-    // A result of 64 bits in its pair, with CR0 of the 64 bits.
+    // CR0 after a result of 64 bits. As of loads, a trait of u32 and u64 would be longer than the two pairs of functions.
+    #[tactic(auto, unfolding(crate::specs::Result::recorded_double_of))]
     fn record_double_result(self, v: u64, rc: bool) -> State
         ensures { result ≡ recorded_double_of self v rc }
     {
@@ -98,6 +105,8 @@ impl State {
         }
     }
 
+    // A result of 64 bits in its pair, with CR0 of the 64 bits.
+    #[tactic(auto, unfolding(crate::specs::Result::double_result_of))]
     pub fn finish_double(self, r: u8, v: u64, rc: bool) -> State
         ensures { result ≡ double_result_of self r v rc }
     {

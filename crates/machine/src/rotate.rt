@@ -44,6 +44,7 @@ fn merge_double(op: RotateDoubleOp, r: u64, n: u8, mb: u8, a: u64) -> u64
 
 impl State {
     // A signed shift's value in RA, and its carry in CA.
+    #[tactic(auto, unfolding(crate::specs::Rotate::shifted_of))]
     fn finish_shift(self, ra: u8, shifted: Shifted, rc: bool) -> State
         ensures { result ≡ shifted_of self ra shifted rc }
     {
@@ -51,6 +52,7 @@ impl State {
             .finish(ra, shifted.value, rc)
     }
 
+    #[tactic(auto, unfolding(crate::specs::Rotate::shift_of))]
     fn shift(self, op: ShiftOp, rs: u8, ra: u8, rb: u8, rc: bool) -> State
         ensures { result ≡ shift_of self op rs ra rb rc }
     {
@@ -98,6 +100,7 @@ impl State {
         self.finish_double(da, v, rc)
     }
 
+    #[tactic(auto, unfolding(crate::specs::Rotate::rotate_of))]
     pub fn rotate(self, i: Rotate) -> State
         ensures { result ≡ rotate_of self i }
     {

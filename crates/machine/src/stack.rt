@@ -1,19 +1,20 @@
 // Stack frames: lsku and stsku, access by access. What was done before one that is not served stays done.
-ghost use Rattle.std.specs.Prelude.{◌≡◌, [], ◌∷◌, ◌+◌, ◌/◌, ◌%◌, ◌^◌};
+ghost use Rattle.std.specs.Prelude.{◌≡◌, ◌/◌, ◌%◌, ◌^◌, [], length};
 ghost use Rattle.insn.specs.Valid.{paired_with};
 ghost use Rattle.insn.specs.declared.instr.StackOp.{StackOp};
 ghost use Rattle.machine.specs.State.{with, with_gpr};
 ghost use Rattle.machine.specs.Result.{next_of};
 ghost use Rattle.machine.specs.declared.state.Reg.{Reg};
+ghost use Rattle.word.specs.declared.width.Width.{Width};
 ghost use Rattle.memory.specs.Access.{access_of};
-ghost use Rattle.machine.specs.Stack.{frame_ea, doublewords, link, back, second_pair, pairs, read_gpr, framed_of, stack_of, missed_at, pairs_missed, frame_missed};
+ghost use Rattle.memory.specs.Store.{stored_of, stored_double_of};
+ghost use Rattle.machine.specs.Stack.{frame_ea, doublewords, pair, link, pairs, parts_of, read_gpr, part_popped, parts_popped, parts_pushed, frame_of, stores_of, stack_of, served_at, parts_served, frame_served};
 
 use crate::state::{Reg, State};
 use insn::instr::StackOp;
 use insn::profile::Profile;
 use insn::valid::paired_with;
-use memory::access::{Access, access_at, double_access};
-use memory::load::{Loaded, LoadedDouble};
+use memory::access::{Fault, access_at, double_access};
 use memory::{load, store};
 use word::sign::extend_half;
 use word::sum::plus;
@@ -24,81 +25,104 @@ pub fn doublewords(op: StackOp, dd: u16) -> u16
     ensures { result ≡ doublewords op dd }
 {
     match op {
-        StackOp::Lsku => { if dd == 0 { 0 } else { dd - 1 } }
-        StackOp::Stsku => { if dd > 8191 { 0 } else { 8191 - dd } }
+        StackOp::Lsku => dd.saturating_sub(1),
+        StackOp::Stsku => 8191_u16.saturating_sub(dd),
     }
 }
 
-// The first access of a frame that is not served, and its address.
+// Whether a frame is stored, and not loaded.
+pub fn stores(op: StackOp) -> bool
+    ensures { result ≡ stores_of op }
+{
+    matches!(op, StackOp::Stsku)
+}
+
+// RA of a frame and its contents, EA, and the doublewords between the two headers. framed_of and frame_served take the four one
+// by one, since theorems of crate promises speak of them so.
 #[derive(Clone, Copy)]
-pub enum Missed {
-    Nothing,
-    Unaligned(u32),
-    Outside(u32),
+pub struct Frame {
+    pub ra: u8,
+    pub sp: u32,
+    pub ea: u32,
+    pub n: u16,
 }
 
-fn missed_at(access: Access, address: u32, rest: Missed) -> Missed
-    ensures { result ≡ missed_at access address rest }
+// Why an access of a frame is not served, and its address.
+#[derive(Clone, Copy)]
+pub struct Missed {
+    pub fault: Fault,
+    pub address: u32,
+}
+
+fn served_at(access: Result<(), Fault>, address: u32) -> Result<(), Missed>
+    ensures { result ≡ served_at access address }
 {
-    match access {
-        Access::Served => rest,
-        Access::Unaligned => Missed::Unaligned(address),
-        Access::Outside => Missed::Outside(address),
-    }
+    access.map_err(|fault| Missed { fault, address })
 }
 
-fn word_missed(len: usize, at: u32, rest: Missed) -> Missed
-    ensures { result ≡ missed_at (access_of len at 4) at rest }
+fn word_stored(mem: &mut [u8], at: u32, v: u32) -> Result<(), Missed>
+    ensures { (result ≡ served_at (access_of (length mem.old) at 4) at) × (mem.new ≡ stored_of mem.old at Width.Word v) }
 {
-    missed_at(access_at(len, at, Width::Word), at, rest)
+    served_at(store::store(mem, at, Width::Word, v), at)
 }
 
-fn double_missed(len: usize, at: u32, rest: Missed) -> Missed
-    ensures { result ≡ missed_at (access_of len at 8) at rest }
+fn double_stored(mem: &mut [u8], at: u32, v: u64) -> Result<(), Missed>
+    ensures { (result ≡ served_at (access_of (length mem.old) at 8) at) × (mem.new ≡ stored_double_of mem.old at v) }
 {
-    missed_at(double_access(len, at), at, rest)
+    served_at(store::store_double(mem, at, v), at)
 }
 
-fn pairs_missed(len: usize, top: u32, n: u16, rest: Missed) -> Missed
-    ensures { result ≡ pairs_missed len top n rest }
+fn word_served(len: usize, at: u32) -> Result<(), Missed>
+    ensures { result ≡ served_at (access_of len at 4) at }
+{
+    served_at(access_at(len, at, Width::Word), at)
+}
+
+fn double_served(len: usize, at: u32) -> Result<(), Missed>
+    ensures { result ≡ served_at (access_of len at 8) at }
+{
+    served_at(double_access(len, at), at)
+}
+
+#[tactic(auto, unfolding(crate::specs::Stack::parts_served))]
+fn pairs_served(len: usize, top: u32, n: u16) -> Result<(), Missed>
+    ensures { result ≡ parts_served len (pairs top n []) }
 {
     if 0 < n {
-        let first = plus(top, 0xFFFF_FFF8);
-        if 1 < n {
-            let second = plus(top, 0xFFFF_FFF0);
-            double_missed(len, first, double_missed(len, second, rest))
-        } else {
-            double_missed(len, first, rest)
-        }
-    } else {
-        rest
+        double_served(len, plus(top, 0xFFFF_FFF8))?;
     }
+    if 1 < n {
+        double_served(len, plus(top, 0xFFFF_FFF0))?;
+    }
+    Ok(())
 }
 
-// Of a whole frame, in `len` bytes of lent memory.
-pub fn frame_missed(len: usize, op: StackOp, sp: u32, ea: u32, n: u16) -> Missed
-    ensures { result ≡ frame_missed len op sp ea n }
+// Whether a whole frame is served, in `len` bytes of lent memory, or its first access that is not.
+#[tactic(auto, using(crate::proofs::Frames::pairs_first), unfolding(crate::specs::Stack::frame_served, crate::specs::Stack::parts_served))]
+pub fn frame_served(len: usize, op: StackOp, f: Frame) -> Result<(), Missed>
+    ensures { result ≡ frame_served len op f.sp f.ea f.n }
 {
-    if sp % 8 == 0 {
-        match op {
-            StackOp::Lsku => pairs_missed(
-                len,
-                ea,
-                n,
-                word_missed(len, plus(ea, 4), Missed::Nothing),
-            ),
-            StackOp::Stsku => word_missed(
-                len,
-                plus(sp, 4),
-                pairs_missed(len, sp, n, word_missed(len, ea, Missed::Nothing)),
-            ),
+    if f.sp % 8 != 0 {
+        return Err(Missed {
+            fault: Fault::Unaligned,
+            address: f.sp,
+        });
+    }
+    match op {
+        StackOp::Lsku => {
+            pairs_served(len, f.ea, f.n)?;
+            word_served(len, plus(f.ea, 4))
         }
-    } else {
-        Missed::Unaligned(sp)
+        StackOp::Stsku => {
+            word_served(len, plus(f.sp, 4))?;
+            pairs_served(len, f.sp, f.n)?;
+            word_served(len, f.ea)
+        }
     }
 }
 
 impl State {
+    #[tactic(auto, unfolding(crate::specs::Stack::frame_ea))]
     pub fn frame_ea(self, ra: u8, dd: u16) -> u32
         ensures { result ≡ frame_ea self ra dd }
     {
@@ -106,11 +130,22 @@ impl State {
         plus(self.reg(ra), extend_half(displacement))
     }
 
-    // The end of either: EDR, (RA) and the next instruction.
-    fn framed(self, ra: u8, ea: u32, edr: u32) -> State
-        ensures { result ≡ next_of (with_gpr (with self Reg.Edr edr) ra ea) }
+    pub fn frame(self, op: StackOp, ra: u8, dd: u16) -> Frame
+        ensures { result ≡ frame_of self op ra dd }
     {
-        self.set(Reg::Edr, edr).set_reg(ra, ea).next()
+        Frame {
+            ra,
+            sp: self.reg(ra),
+            ea: self.frame_ea(ra, dd),
+            n: doublewords(op, dd),
+        }
+    }
+
+    // The end of either: EDR, (RA) and the next instruction.
+    fn framed(self, f: Frame, edr: u32) -> State
+        ensures { result ≡ next_of (with_gpr (with self Reg.Edr edr) f.ra f.ea) }
+    {
+        self.set(Reg::Edr, edr).set_reg(f.ra, f.ea).next()
     }
 
     // One GPR of a pair that is read, but not RA itself.
@@ -128,144 +163,73 @@ impl State {
         self.read_gpr(ra, n, high).read_gpr(ra, paired_with(n), low)
     }
 
-    // LR, the last that lsku reads.
-    fn pop_link(self, profile: Profile, mem: &[u8], ra: u8, sp: u32, ea: u32) -> State
-        ensures { result ≡ (framed_of profile StackOp.Lsku ra sp ea (link ((ea + 4) % 2 ^ 32) ∷ []) self mem.now).st }
+    // VDR n, read at an address, or the state after the interrupt.
+    fn pop_pair(self, profile: Profile, mem: &[u8], ra: u8, n: u8, at: u32) -> Result<State, State>
+        ensures { result ≡ part_popped profile ra (pair n at) mem.now self }
     {
-        let at = plus(ea, 4);
-        let got = load::load(mem, at, Width::Word);
-        match got {
-            Loaded::Value(v) => self.set(Reg::Lr, v).framed(ra, ea, ea),
-            Loaded::Unaligned => self.alignment(profile, at, false),
-            Loaded::Outside => self.data_storage(profile, at, false),
+        match load::load_double(mem, at) {
+            Ok(v) => Ok(self.read_pair(ra, n, v)),
+            Err(fault) => Err(self.faulted(profile, fault, at, false)),
         }
     }
 
-    // VDR28, where the frame has it.
-    fn pop_second(self, profile: Profile, mem: &[u8], ra: u8, sp: u32, ea: u32, n: u16) -> State
-        ensures { result ≡ (framed_of profile StackOp.Lsku ra sp ea (second_pair ea n (link ((ea + 4) % 2 ^ 32) ∷ [])) self mem.now).st }
+    // LR, read at an address, or the state after the interrupt.
+    fn pop_link(self, profile: Profile, mem: &[u8], ra: u8, at: u32) -> Result<State, State>
+        ensures { result ≡ part_popped profile ra (link at) mem.now self }
     {
-        if 1 < n {
-            let at = plus(ea, 0xFFFF_FFF0);
-            let got = load::load_double(mem, at);
-            match got {
-                LoadedDouble::Value(v) => {
-                    self.read_pair(ra, 28, v).pop_link(profile, mem, ra, sp, ea)
-                }
-                LoadedDouble::Unaligned => self.alignment(profile, at, false),
-                LoadedDouble::Outside => self.data_storage(profile, at, false),
-            }
-        } else {
-            self.pop_link(profile, mem, ra, sp, ea)
+        match load::load(mem, at, Width::Word) {
+            Ok(v) => Ok(self.set(Reg::Lr, v)),
+            Err(fault) => Err(self.faulted(profile, fault, at, false)),
         }
     }
 
-    // VDR30, where the frame has it.
-    fn pop(self, profile: Profile, mem: &[u8], ra: u8, sp: u32, ea: u32, n: u16) -> State
-        ensures { result ≡ (framed_of profile StackOp.Lsku ra sp ea (pairs ea n (link ((ea + 4) % 2 ^ 32) ∷ [])) self mem.now).st }
+    // The pairs that the frame has, then LR.
+    #[tactic(auto, unfolding(crate::specs::Stack::parts_popped))]
+    fn pop(self, profile: Profile, mem: &[u8], f: Frame) -> Result<State, State>
+        ensures { result ≡ parts_popped profile f.ra (parts_of StackOp.Lsku f.sp f.ea f.n) mem.now self }
     {
-        if 0 < n {
-            let at = plus(ea, 0xFFFF_FFF8);
-            let got = load::load_double(mem, at);
-            match got {
-                LoadedDouble::Value(v) => self
-                    .read_pair(ra, 30, v)
-                    .pop_second(profile, mem, ra, sp, ea, n),
-                LoadedDouble::Unaligned => self.alignment(profile, at, false),
-                LoadedDouble::Outside => self.data_storage(profile, at, false),
-            }
-        } else {
-            self.pop_link(profile, mem, ra, sp, ea)
+        let mut state = self;
+        if 0 < f.n {
+            state = state.pop_pair(profile, mem, f.ra, 30, plus(f.ea, 0xFFFF_FFF8))?;
         }
+        if 1 < f.n {
+            state = state.pop_pair(profile, mem, f.ra, 28, plus(f.ea, 0xFFFF_FFF0))?;
+        }
+        state.pop_link(profile, mem, f.ra, plus(f.ea, 4))
     }
 
-    // The back pointer, the last that stsku stores.
-    fn push_back(self, profile: Profile, mem: &mut [u8], ra: u8, sp: u32, ea: u32) -> State
-        ensures { (result ≡ (framed_of profile StackOp.Stsku ra sp ea (back ea ∷ []) self mem.old).st) × (mem.new ≡ (framed_of profile StackOp.Stsku ra sp ea (back ea ∷ []) self mem.old).mem) }
+    // LR, the pairs that the frame has, then the back pointer.
+    #[tactic(auto, unfolding(crate::specs::Stack::parts_served, crate::specs::Stack::parts_pushed))]
+    fn push(self, mem: &mut [u8], f: Frame) -> Result<(), Missed>
+        ensures { (result ≡ parts_served (length mem.old) (parts_of StackOp.Stsku f.sp f.ea f.n)) × (mem.new ≡ parts_pushed f.ra (parts_of StackOp.Stsku f.sp f.ea f.n) self mem.old) }
     {
-        let done = store::store(mem, ea, Width::Word, self.reg(ra));
-        match done {
-            Access::Served => self.framed(ra, ea, sp),
-            Access::Unaligned => self.alignment(profile, ea, true),
-            Access::Outside => self.data_storage(profile, ea, true),
+        word_stored(mem, plus(f.sp, 4), self.lr)?;
+        if 0 < f.n {
+            double_stored(mem, plus(f.sp, 0xFFFF_FFF8), self.vdr(30))?;
         }
+        if 1 < f.n {
+            double_stored(mem, plus(f.sp, 0xFFFF_FFF0), self.vdr(28))?;
+        }
+        word_stored(mem, f.ea, self.reg(f.ra))
     }
 
-    fn push_second(
-        self,
-        profile: Profile,
-        mem: &mut [u8],
-        ra: u8,
-        sp: u32,
-        ea: u32,
-        n: u16,
-    ) -> State
-        ensures { (result ≡ (framed_of profile StackOp.Stsku ra sp ea (second_pair sp n (back ea ∷ [])) self mem.old).st) × (mem.new ≡ (framed_of profile StackOp.Stsku ra sp ea (second_pair sp n (back ea ∷ [])) self mem.old).mem) }
-    {
-        if 1 < n {
-            let at = plus(sp, 0xFFFF_FFF0);
-            let done = store::store_double(mem, at, self.vdr(28));
-            match done {
-                Access::Served => self.push_back(profile, mem, ra, sp, ea),
-                Access::Unaligned => self.alignment(profile, at, true),
-                Access::Outside => self.data_storage(profile, at, true),
-            }
-        } else {
-            self.push_back(profile, mem, ra, sp, ea)
-        }
-    }
-
-    fn push_first(self, profile: Profile, mem: &mut [u8], ra: u8, sp: u32, ea: u32, n: u16) -> State
-        ensures { (result ≡ (framed_of profile StackOp.Stsku ra sp ea (pairs sp n (back ea ∷ [])) self mem.old).st) × (mem.new ≡ (framed_of profile StackOp.Stsku ra sp ea (pairs sp n (back ea ∷ [])) self mem.old).mem) }
-    {
-        if 0 < n {
-            let at = plus(sp, 0xFFFF_FFF8);
-            let done = store::store_double(mem, at, self.vdr(30));
-            match done {
-                Access::Served => self.push_second(profile, mem, ra, sp, ea, n),
-                Access::Unaligned => self.alignment(profile, at, true),
-                Access::Outside => self.data_storage(profile, at, true),
-            }
-        } else {
-            self.push_back(profile, mem, ra, sp, ea)
-        }
-    }
-
-    // LR, the first that stsku stores.
-    fn push(self, profile: Profile, mem: &mut [u8], ra: u8, sp: u32, ea: u32, n: u16) -> State
-        ensures { (result ≡ (framed_of profile StackOp.Stsku ra sp ea (link ((sp + 4) % 2 ^ 32) ∷ pairs sp n (back ea ∷ [])) self mem.old).st) × (mem.new ≡ (framed_of profile StackOp.Stsku ra sp ea (link ((sp + 4) % 2 ^ 32) ∷ pairs sp n (back ea ∷ [])) self mem.old).mem) }
-    {
-        let at = plus(sp, 4);
-        let done = store::store(mem, at, Width::Word, self.lr);
-        match done {
-            Access::Served => self.push_first(profile, mem, ra, sp, ea, n),
-            Access::Unaligned => self.alignment(profile, at, true),
-            Access::Outside => self.data_storage(profile, at, true),
-        }
-    }
-
+    #[tactic(auto, using(crate::proofs::Frames::popped_frame, crate::proofs::Frames::pop_memory, crate::proofs::Frames::pushed_frame, crate::proofs::Frames::pushed_memory), unfolding(crate::specs::Stack::stack_of))]
     pub fn stack(self, profile: Profile, mem: &mut [u8], op: StackOp, ra: u8, dd: u16) -> State
         ensures { (result ≡ (stack_of profile self mem.old op ra dd).st) × (mem.new ≡ (stack_of profile self mem.old op ra dd).mem) }
     {
-        let sp = self.reg(ra);
-        let ea = self.frame_ea(ra, dd);
-        let n = doublewords(op, dd);
-        let placed = sp % 8 == 0;
+        let f = self.frame(op, ra, dd);
+        if f.sp % 8 != 0 {
+            return self.faulted(profile, Fault::Unaligned, f.sp, stores(op));
+        }
         match op {
-            StackOp::Lsku => {
-                if placed {
-                    self.pop(profile, &mem[..], ra, sp, ea, n)
-                } else {
-                    self.alignment(profile, sp, false)
-                }
-            }
-            StackOp::Stsku => {
-                if placed {
-                    self.push(profile, mem, ra, sp, ea, n)
-                } else {
-                    self.alignment(profile, sp, true)
-                }
-            }
+            StackOp::Lsku => match self.pop(profile, &mem[..], f) {
+                Ok(state) => state.framed(f, f.ea),
+                Err(state) => state,
+            },
+            StackOp::Stsku => match self.push(mem, f) {
+                Ok(()) => self.framed(f, f.sp),
+                Err(missed) => self.faulted(profile, missed.fault, missed.address, true),
+            },
         }
     }
 }

@@ -5,7 +5,7 @@ ghost use Rattle.machine.specs.State.{place_of, gpr_of, base_of, vdr_of, with_gp
 use insn::valid::paired_with;
 use word::shift::select;
 
-#[derive(Clone, Copy)]
+#[derive(Clone, Copy, PartialEq, Eq)]
 pub struct State {
     pub gpr: [u32; 16],
     pub cr: u32,
@@ -27,6 +27,7 @@ pub struct State {
     pub tsr: u32,
     pub xer: u32,
     pub iar: u32,
+    // a number and no enum: captures and C hold it so, and a run that marks puts 8 and 9 here
     pub halt: u32,
 }
 
@@ -71,14 +72,13 @@ fn place(n: u8) -> usize
 }
 
 // The sixteen with one of them replaced. Each is chosen and none is stored to: a store of one would hold up the next read of all.
+// A loop, since `array::from_fn` was tried and needs a lemma on the calls of its closure where this has one invariant.
 fn replaced(gpr: [u32; 16], at: usize, v: u32) -> [u32; 16]
     ensures { result ≡ set gpr at v }
 {
     let mut all = [0; 16];
-    let mut k = 0;
-    while k < 16 {
+    for k in 0..16 {
         all[k] = select(at == k, v, gpr[k]);
-        k += 1;
     }
     all
 }
@@ -86,6 +86,7 @@ fn replaced(gpr: [u32; 16], at: usize, v: u32) -> [u32; 16]
 // The sixteen are indexed apart from the rest of the state, so that a compiler can keep that in registers.
 impl State {
     // The contents of a GPR.
+    #[tactic(auto, unfolding(crate::specs::State::gpr_of))]
     pub fn reg(self, n: u8) -> u32
         ensures { result ≡ gpr_of self n }
     {
@@ -95,6 +96,7 @@ impl State {
     }
 
     // The contents of two GPRs, out of one copy of the sixteen.
+    #[tactic(auto, unfolding(crate::specs::State::gpr_of))]
     pub fn pair(self, m: u8, n: u8) -> Pair
         ensures { (result.a ≡ gpr_of self m) × (result.b ≡ gpr_of self n) }
     {
@@ -108,6 +110,7 @@ impl State {
     }
 
     // (RA|0): the contents of RA, or 0 if RA is 0.
+    #[tactic(auto, unfolding(crate::specs::State::base_of))]
     pub fn base(self, n: u8) -> u32
         ensures { result ≡ base_of self n }
     {
@@ -115,6 +118,7 @@ impl State {
     }
 
     // The contents of a virtual doubleword register.
+    #[tactic(auto, unfolding(crate::specs::State::vdr_of))]
     pub fn vdr(self, n: u8) -> u64
         ensures { result ≡ vdr_of self n }
     {
@@ -122,108 +126,49 @@ impl State {
         words.a as u64 * 0x1_0000_0000 + words.b as u64
     }
 
-    pub fn set_reg(mut self, n: u8, v: u32) -> State
+    #[tactic(auto, unfolding(crate::specs::State::with_gpr))]
+    pub fn set_reg(self, n: u8, v: u32) -> State
         ensures { result ≡ with_gpr self n v }
     {
-        let at = place(n);
-        let gpr = self.gpr;
-        let all = replaced(gpr, at, v);
-        self.gpr = all;
-        self
+        let gpr = replaced(self.gpr, place(n), v);
+        State { gpr, ..self }
     }
 
+    #[tactic(auto, unfolding(crate::specs::State::with_vdr))]
     pub fn set_vdr(self, n: u8, v: u64) -> State
         ensures { result ≡ with_vdr self n v }
     {
+        // by / and %: `as` may not cut off, and of >> no rule is at hand (tried)
         let high = (v / 0x1_0000_0000) as u32;
         let low = (v % 0x1_0000_0000) as u32;
         self.set_reg(n, high).set_reg(paired_with(n), low)
     }
 
-    pub fn set(mut self, r: Reg, v: u32) -> State
+    #[tactic(auto, unfolding(crate::specs::State::with))]
+    pub fn set(self, r: Reg, v: u32) -> State
         ensures { result ≡ with self r v }
     {
         match r {
-            Reg::Cr => {
-                self.cr = v;
-                self
-            }
-            Reg::Ctr => {
-                self.ctr = v;
-                self
-            }
-            Reg::Dacr => {
-                self.dacr = v;
-                self
-            }
-            Reg::Dbcr => {
-                self.dbcr = v;
-                self
-            }
-            Reg::Dec => {
-                self.dec = v;
-                self
-            }
-            Reg::Edr => {
-                self.edr = v;
-                self
-            }
-            Reg::Isr => {
-                self.isr = v;
-                self
-            }
-            Reg::Ivpr => {
-                self.ivpr = v;
-                self
-            }
-            Reg::Lr => {
-                self.lr = v;
-                self
-            }
-            Reg::Msr => {
-                self.msr = v;
-                self
-            }
-            Reg::Pir => {
-                self.pir = v;
-                self
-            }
-            Reg::Pvr => {
-                self.pvr = v;
-                self
-            }
-            Reg::Sprg0 => {
-                self.sprg0 = v;
-                self
-            }
-            Reg::Srr0 => {
-                self.srr0 = v;
-                self
-            }
-            Reg::Srr1 => {
-                self.srr1 = v;
-                self
-            }
-            Reg::Tcr => {
-                self.tcr = v;
-                self
-            }
-            Reg::Tsr => {
-                self.tsr = v;
-                self
-            }
-            Reg::Xer => {
-                self.xer = v;
-                self
-            }
-            Reg::Iar => {
-                self.iar = v;
-                self
-            }
-            Reg::Halt => {
-                self.halt = v;
-                self
-            }
+            Reg::Cr => State { cr: v, ..self },
+            Reg::Ctr => State { ctr: v, ..self },
+            Reg::Dacr => State { dacr: v, ..self },
+            Reg::Dbcr => State { dbcr: v, ..self },
+            Reg::Dec => State { dec: v, ..self },
+            Reg::Edr => State { edr: v, ..self },
+            Reg::Isr => State { isr: v, ..self },
+            Reg::Ivpr => State { ivpr: v, ..self },
+            Reg::Lr => State { lr: v, ..self },
+            Reg::Msr => State { msr: v, ..self },
+            Reg::Pir => State { pir: v, ..self },
+            Reg::Pvr => State { pvr: v, ..self },
+            Reg::Sprg0 => State { sprg0: v, ..self },
+            Reg::Srr0 => State { srr0: v, ..self },
+            Reg::Srr1 => State { srr1: v, ..self },
+            Reg::Tcr => State { tcr: v, ..self },
+            Reg::Tsr => State { tsr: v, ..self },
+            Reg::Xer => State { xer: v, ..self },
+            Reg::Iar => State { iar: v, ..self },
+            Reg::Halt => State { halt: v, ..self },
         }
     }
 }

@@ -1,10 +1,8 @@
 // Traps, and the instructions that move special registers.
-ghost use Rattle.std.specs.Prelude.{◌≡◌, eqb};
-ghost use Rattle.memory.specs.Access.{pick};
-ghost use Rattle.machine.specs.declared.interrupt.Halt.{Halt};
+ghost use Rattle.std.specs.Prelude.{◌≡◌};
 ghost use Rattle.machine.specs.System.{trap_of, spr_of, read_of, reset_of, dbcr_written, dec_written, isr_written, tsr_written, written, spr_written, spr_moved, enabled_of, moved_of, returned_of, system_of};
 
-use crate::interrupt::Halt;
+use crate::interrupt::{Halt, asked};
 use crate::register::defined;
 use crate::state::{Reg, State};
 use crate::timer::bit_rises;
@@ -14,6 +12,7 @@ use word::bits::{Bit, bit_at, bits_at, digit_of, field_at};
 use word::rotate::put_at;
 
 // The register that a number names.
+#[tactic(auto, unfolding(crate::specs::System::spr_of))]
 fn spr(n: u16) -> Reg
     ensures { result ≡ spr_of n }
 {
@@ -37,18 +36,12 @@ fn spr(n: u16) -> Reg
     }
 }
 
-// What writing DBCR[RST] asks for, where it is not 00.
-fn asked(rst: u32) -> Halt
-    ensures { result ≡ pick (eqb rst 3) Halt.Debug Halt.Reset }
-{
-    if rst == 3 { Halt::Debug } else { Halt::Reset }
-}
-
 impl State {
+    #[tactic(auto, unfolding(crate::specs::System::trap_of))]
     pub fn trap(self, profile: Profile, word: u32, to: u8, tg: bool) -> State
         ensures { result ≡ trap_of profile self word to tg }
     {
-        if (to == 0) | is_42x(profile) & tg {
+        if to == 0 || is_42x(profile) && tg {
             return self.next();
         }
         if bit_at(self.dbcr, Bit(7)) {
@@ -59,26 +52,28 @@ impl State {
     }
 
     // What mfspr reads.
+    #[tactic(auto, unfolding(crate::specs::System::read_of, crate::specs::System::spr_of))]
     fn read_spr(self, n: u16) -> u32
         ensures { result ≡ read_of self n }
     {
-        if n == 308 {
-            put_at(self.dbcr, Bit(2), Bit(3), 0)
-        } else {
-            self.get(spr(n))
+        match spr(n) {
+            Reg::Dbcr => put_at(self.dbcr, Bit(2), Bit(3), 0),
+            r => self.get(r),
         }
     }
 
+    #[tactic(auto, unfolding(crate::specs::System::reset_of))]
     fn reset(self, rst: u32) -> State
         ensures { result ≡ reset_of self rst }
     {
         if rst == 0 {
             self
         } else {
-            self.stop(asked(rst))
+            self.stop(asked(rst, Halt::Debug))
         }
     }
 
+    #[tactic(auto, unfolding(crate::specs::System::dbcr_written))]
     fn write_dbcr(self, profile: Profile, v: u32) -> State
         ensures { result ≡ dbcr_written profile self v }
     {
@@ -86,6 +81,7 @@ impl State {
         self.set(Reg::Dbcr, dbcr).reset(bits_at(v, Bit(2), Bit(3)))
     }
 
+    #[tactic(auto, unfolding(crate::specs::System::dec_written))]
     fn write_dec(self, v: u32) -> State
         ensures { result ≡ dec_written self v }
     {
@@ -94,6 +90,7 @@ impl State {
         self.set(Reg::Tsr, tsr).set(Reg::Dec, v)
     }
 
+    #[tactic(auto, unfolding(crate::specs::System::isr_written))]
     fn write_isr(self, profile: Profile, v: u32) -> State
         ensures { result ≡ isr_written profile self v }
     {
@@ -102,6 +99,7 @@ impl State {
         self.set(Reg::Isr, isr)
     }
 
+    #[tactic(auto, unfolding(crate::specs::System::tsr_written))]
     fn write_tsr(self, v: u32) -> State
         ensures { result ≡ tsr_written self v }
     {
@@ -110,27 +108,23 @@ impl State {
     }
 
     // A register written, its reserved bits dropped.
+    #[tactic(auto, unfolding(crate::specs::System::written))]
     fn write(self, profile: Profile, r: Reg, v: u32) -> State
         ensures { result ≡ written profile self r v }
     {
         self.set(r, v & defined(profile, r))
     }
 
-    fn write_msr(self, profile: Profile, v: u32) -> State
-        ensures { result ≡ written profile self Reg.Msr v }
-    {
-        self.set(Reg::Msr, v & defined(profile, Reg::Msr))
-    }
-
+    #[tactic(auto, unfolding(crate::specs::System::spr_written, crate::specs::System::spr_of))]
     fn write_spr(self, profile: Profile, n: u16, v: u32) -> State
         ensures { result ≡ spr_written profile self n v }
     {
-        match n {
-            22 => self.write_dec(v),
-            62 => self.write_isr(profile, v),
-            308 => self.write_dbcr(profile, v),
-            336 => self.write_tsr(v),
-            _ => self.write(profile, spr(n), v),
+        match spr(n) {
+            Reg::Dec => self.write_dec(v),
+            Reg::Isr => self.write_isr(profile, v),
+            Reg::Dbcr => self.write_dbcr(profile, v),
+            Reg::Tsr => self.write_tsr(v),
+            r => self.write(profile, r, v),
         }
     }
 
@@ -144,6 +138,7 @@ impl State {
     }
 
     // MSR[EE] alone.
+    #[tactic(auto, unfolding(crate::specs::System::enabled_of))]
     fn enable(self, e: bool) -> State
         ensures { result ≡ enabled_of self e }
     {
@@ -151,27 +146,28 @@ impl State {
         self.set(Reg::Msr, msr).next()
     }
 
+    #[tactic(auto, unfolding(crate::specs::System::moved_of, crate::specs::System::written))]
     fn move_reg(self, profile: Profile, op: MoveOp, r: u8) -> State
         ensures { result ≡ moved_of profile self op r }
     {
         match op {
             MoveOp::Mfcr => self.finish(r, self.cr & defined(profile, Reg::Cr), false),
-            MoveOp::Mtcr0 => self
-                .set(Reg::Cr, self.reg(r) & defined(profile, Reg::Cr))
-                .next(),
+            MoveOp::Mtcr0 => self.write(profile, Reg::Cr, self.reg(r)).next(),
             MoveOp::Mfmsr => self.finish(r, self.msr, false),
-            MoveOp::Mtmsr => self.write_msr(profile, self.reg(r)).next(),
+            MoveOp::Mtmsr => self.write(profile, Reg::Msr, self.reg(r)).next(),
             MoveOp::Wrtee => self.enable(bit_at(self.reg(r), Bit(16))),
         }
     }
 
+    #[tactic(auto, unfolding(crate::specs::System::returned_of))]
     fn return_from(self, profile: Profile) -> State
         ensures { result ≡ returned_of profile self }
     {
         let iar = self.srr0 / 4 * 4;
-        self.write_msr(profile, self.srr1).set(Reg::Iar, iar)
+        self.write(profile, Reg::Msr, self.srr1).set(Reg::Iar, iar)
     }
 
+    #[tactic(auto, unfolding(crate::specs::System::system_of))]
     pub fn system(self, profile: Profile, i: System) -> State
         ensures { result ≡ system_of profile self i }
     {

@@ -1,11 +1,9 @@
 // Line 2 of a step, the event byte applied to DEC, TSR and ISR[EP], and line 3, the watchdog's action.
 ghost use Rattle.std.specs.Prelude.{◌≡◌, ◌≤◌, false, not, ◌&&◌, ◌||◌, eqb};
 ghost use Rattle.word.specs.Bits.{bit_at};
-ghost use Rattle.memory.specs.Access.{pick};
-ghost use Rattle.machine.specs.declared.interrupt.Halt.{Halt};
 ghost use Rattle.machine.specs.Timer.{timer_in, counts_in, dec_after, rises, watchdog_event, tsr_after, pending_of, event_noted, ticked_of, acts_of, acted_of};
 
-use crate::interrupt::Halt;
+use crate::interrupt::{Halt, asked};
 use crate::state::{Reg, State};
 use word::bits::{Bit, bit_at, bits_at, digit_of, field_at};
 use word::rotate::put_at;
@@ -35,6 +33,7 @@ fn counts_in(tcr: u32, event: u8) -> bool
     if bit_at(tcr, Bit(10)) { timer } else { always }
 }
 
+#[tactic(auto, unfolding(crate::specs::Timer::dec_after))]
 fn dec_after(dec: u32, tcr: u32, event: u8) -> u32
     ensures { result ≡ dec_after dec tcr event }
 {
@@ -48,6 +47,7 @@ pub fn bit_rises(before: u32, after: u32) -> bool
     !bit_at(before, Bit(0)) & bit_at(after, Bit(0))
 }
 
+#[tactic(auto, unfolding(crate::specs::Timer::tsr_after))]
 fn tsr_after(tsr: u32, tcr: u32, event: u8, dis: bool) -> u32
     ensures { result ≡ tsr_after tsr tcr event dis }
 {
@@ -61,6 +61,7 @@ fn tsr_after(tsr: u32, tcr: u32, event: u8, dis: bool) -> u32
 }
 
 // Whether an event that MSR[EE] masks is pending.
+#[tactic(auto, unfolding(crate::specs::Timer::pending_of))]
 fn event_pending(tsr: u32, tcr: u32, event: u8) -> bool
     ensures { result ≡ pending_of tsr tcr event }
 {
@@ -82,19 +83,9 @@ pub fn quiet(tcr: u32, event: u8) -> bool
             | bit_at(tcr, Bit(10)))
 }
 
-// What a watchdog action is, by TCR[WRC].
-fn action(wrc: u32) -> Halt
-    ensures { result ≡ pick (eqb wrc 3) Halt.Watchdog Halt.Reset }
-{
-    if wrc == 3 {
-        Halt::Watchdog
-    } else {
-        Halt::Reset
-    }
-}
-
 impl State {
     // ISR[EP].
+    #[tactic(auto, unfolding(crate::specs::Timer::event_noted))]
     fn note_event(self, event: u8) -> State
         ensures { result ≡ event_noted self event }
     {
@@ -118,6 +109,7 @@ impl State {
     }
 
     // The event byte applied in any step.
+    #[tactic(auto, unfolding(crate::specs::Timer::ticked_of))]
     fn apply(self, event: u8) -> State
         ensures { result ≡ ticked_of self event }
     {
@@ -138,6 +130,7 @@ impl State {
     }
 
     // Whether the event makes the watchdog halt or reset the core.
+    #[tactic(auto, unfolding(crate::specs::Timer::acts_of))]
     pub fn acts(self, event: u8) -> bool
         ensures { result ≡ acts_of self event }
     {
@@ -151,12 +144,15 @@ impl State {
     }
 
     // The watchdog's action.
+    #[tactic(auto, unfolding(crate::specs::Timer::acted_of))]
     pub fn act(self) -> State
         ensures { result ≡ acted_of self }
     {
         let wrc = bits_at(self.tcr, Bit(2), Bit(3));
         let tsr = put_at(self.tsr, Bit(2), Bit(3), wrc);
         let tcr = put_at(self.tcr, Bit(2), Bit(3), 0);
-        self.set(Reg::Tsr, tsr).set(Reg::Tcr, tcr).stop(action(wrc))
+        self.set(Reg::Tsr, tsr)
+            .set(Reg::Tcr, tcr)
+            .stop(asked(wrc, Halt::Watchdog))
     }
 }

@@ -9,30 +9,26 @@ use lib.ListN.{length}
 use borrow.Author.Tests.{eqb-true, eqb-false}
 use Rattle.word.specs.Width.{bytes}
 use Rattle.word.specs.declared.width.Width.{Width}
-use Rattle.memory.specs.Access.{pick, access_of, reaches_past}
-use Rattle.memory.specs.Load.{loaded, value_at, load_of, loaded_double, double_at, load_double_of}
-use Rattle.memory.specs.declared.access.Access.{Access}
+use Rattle.memory.specs.Access.{Access, pick, access_of, reaches_past}
+use Rattle.memory.specs.Load.{loaded, value_at, load_of, double_at, load_double_of}
+use Rattle.memory.specs.declared.access.Fault.{Fault}
+use Rattle.std.specs.Prelude.{Ok, Err}
 use Rattle.machine.specs.State.{with}
-use Rattle.marked.specs.Mark.{load_reaches, double_reaches, marked, unmarked}
+use Rattle.marked.specs.Mark.{marked, unmarked}
 use Rattle.machine.specs.declared.state.State.{State}
 
-loaded_reaches : (x : Access) (v : ℕ) → reaches_past x ≡ load_reaches (loaded x v)
-loaded_reaches Access.Served v = refl
-loaded_reaches Access.Unaligned v = refl
-loaded_reaches Access.Outside v = refl
+pub loaded_reaches : (x : Access) (v : ℕ) → reaches_past x ≡ reaches_past (loaded x v)
+loaded_reaches (Ok u) v = refl
+loaded_reaches (Err Fault.Unaligned) v = refl
+loaded_reaches (Err Fault.Outside) v = refl
 
-pub load_reaches_lem : (m : List ℕ) (a : ℕ) (w : Width) → reaches_past (access_of (length m) a (bytes w)) ≡ load_reaches (load_of m a w)
+pub load_reaches : (m : List ℕ) (a : ℕ) (w : Width) → reaches_past (access_of (length m) a (bytes w)) ≡ reaches_past (load_of m a w)
 unfolding load_of
-load_reaches_lem m a w = loaded_reaches (access_of (length m) a (bytes w)) (value_at w m a)
+load_reaches m a w = loaded_reaches (access_of (length m) a (bytes w)) (value_at w m a)
 
-loaded_double_reaches : (x : Access) (v : ℕ) → reaches_past x ≡ double_reaches (loaded_double x v)
-loaded_double_reaches Access.Served v = refl
-loaded_double_reaches Access.Unaligned v = refl
-loaded_double_reaches Access.Outside v = refl
-
-pub double_reaches_lem : (m : List ℕ) (a : ℕ) → reaches_past (access_of (length m) a 8) ≡ double_reaches (load_double_of m a)
+pub double_reaches : (m : List ℕ) (a : ℕ) → reaches_past (access_of (length m) a 8) ≡ reaches_past (load_double_of m a)
 unfolding load_double_of
-double_reaches_lem m a = loaded_double_reaches (access_of (length m) a 8) (double_at m a)
+double_reaches m a = loaded_reaches (access_of (length m) a 8) (double_at m a)
 
 mark_back : (h : ℕ) (b : Bool) → eqb h 0 ≡ b → h ≤ 1 → pick b 8 9 % 8 ≡ h
 mark_back h true e l = rw (eqb-true h 0 e) refl

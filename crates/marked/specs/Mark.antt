@@ -1,23 +1,10 @@
 -- A state with a mark that tells a reach past memory. This serves code alone: no sentence of the manual or the scope has it.
-use Rattle.std.specs.Prelude.{ℕ, ◌%◌, Bool, true, false, eqb}
+use Rattle.std.specs.Prelude.{ℕ, ◌%◌, Bool, eqb}
 use Rattle.memory.specs.Access.{pick}
-use Rattle.memory.specs.declared.load.Loaded.{Loaded}
-use Rattle.memory.specs.declared.load.LoadedDouble.{LoadedDouble}
 use Rattle.machine.specs.State.{with}
 use Rattle.machine.specs.After.{After}
 use Rattle.machine.specs.declared.state.State.{State}
 use Rattle.machine.specs.declared.state.Reg.{Reg}
-
--- what was loaded fell outside
-abbrev pub load_reaches : Loaded → Bool
-load_reaches (Loaded.Value v) = false
-load_reaches Loaded.Unaligned = false
-load_reaches Loaded.Outside = true
-
-abbrev pub double_reaches : LoadedDouble → Bool
-double_reaches (LoadedDouble.Value v) = false
-double_reaches LoadedDouble.Unaligned = false
-double_reaches LoadedDouble.Outside = true
 
 -- the mark of a reach, in the halt code's place: 8 where the core goes on, 9 where the reach halted it with 1
 abbrev pub mark_for : ℕ → ℕ

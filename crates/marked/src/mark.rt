@@ -1,31 +1,8 @@
-// The mark of a reach past memory, in the halt code's place.
+// The mark of a reach past memory: a number in the halt code's place, since a flag beside the state is slower (docs/SPEED.md).
 ghost use Rattle.std.specs.Prelude.{◌≡◌};
-ghost use Rattle.marked.specs.Mark.{load_reaches, double_reaches, mark_for, marked_if, unmarked};
+ghost use Rattle.marked.specs.Mark.{mark_for, marked_if, unmarked};
 
 use machine::state::{Reg, State};
-use memory::load::{Loaded, LoadedDouble};
-
-// Whether what was loaded fell outside.
-pub fn load_reaches(got: Loaded) -> bool
-    ensures { result ≡ load_reaches got }
-{
-    match got {
-        Loaded::Value(_) => false,
-        Loaded::Unaligned => false,
-        Loaded::Outside => true,
-    }
-}
-
-// The same of a doubleword.
-pub fn double_reaches(got: LoadedDouble) -> bool
-    ensures { result ≡ double_reaches got }
-{
-    match got {
-        LoadedDouble::Value(_) => false,
-        LoadedDouble::Unaligned => false,
-        LoadedDouble::Outside => true,
-    }
-}
 
 // A reach leaves the halt code 0 or 1, and no halt code is 8 or more.
 fn mark_for(halt: u32) -> u32
@@ -34,6 +11,7 @@ fn mark_for(halt: u32) -> u32
     if halt == 0 { 8 } else { 9 }
 }
 
+#[tactic(auto, unfolding(crate::specs::Mark::marked))]
 pub fn mark(state: State, past: bool) -> State
     ensures { result ≡ marked_if past state }
 {
@@ -44,6 +22,7 @@ pub fn mark(state: State, past: bool) -> State
     state
 }
 
+#[tactic(auto, unfolding(crate::specs::Mark::unmarked))]
 pub fn unmark(state: State) -> State
     ensures { result ≡ unmarked state }
 {

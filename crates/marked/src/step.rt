@@ -1,48 +1,47 @@
 // The step that marks a reach past its memory: a loop that ends at a halt ends there too, and of the other steps only dcbz and stack
-// frames pay for the question.
+// frames pay for the question. It is no twin of machine's step, which differs in more than a constant: where an access is judged this one marks.
 ghost use Rattle.std.specs.Prelude.{◌≡◌};
 ghost use Rattle.insn.specs.Read.{decode_on};
 ghost use Rattle.machine.specs.LoadStore.{loaded_state, stored_state, load_store_of};
 ghost use Rattle.machine.specs.Cache.{cache_of};
-ghost use Rattle.machine.specs.Stack.{frame_ea, doublewords, stack_of, frame_missed, missed_past};
+ghost use Rattle.machine.specs.Stack.{frame_ea, doublewords, stack_of, frame_served, frame_past};
 ghost use Rattle.machine.specs.State.{gpr_of};
 ghost use Rattle.machine.specs.Step.{execute_of, decoded_of, running_of, awake_of, highest_of, interruptible_of, counted_of, step_of};
 ghost use Rattle.memory.specs.Access.{reaches_past};
-ghost use Rattle.marked.specs.Mark.{load_reaches, marked_if, marked_of};
+ghost use Rattle.marked.specs.Mark.{marked_if, marked_of};
 
-use crate::mark::{double_reaches, load_reaches, mark};
-use insn::instr::{CacheOp, Decoded, Instr, LoadStore, StackOp};
+use crate::mark::mark;
+use insn::instr::{CacheOp, Instr, LoadStore, StackOp};
 use insn::profile::Profile;
 use insn::read::read;
-use machine::stack::{Missed, doublewords, frame_missed};
+use machine::stack::frame_served;
 use machine::state::State;
-use machine::step::Pending;
-use memory::access::{Access, block_access, reaches_past};
-use memory::load::{Loaded, fetch};
+use memory::access::{Fault, block_access, reaches_past};
+use memory::load::fetch;
 use memory::{load, store};
 use word::bits::{Bit, bit_at};
 
 fn loaded_marked(
     profile: Profile,
     state: State,
-    got: Loaded,
+    got: Result<u32, Fault>,
     rt: u8,
     update: bool,
     ra: u8,
     ea: u32,
 ) -> State
-    ensures { result ≡ marked_if (load_reaches got) (loaded_state profile state got rt update ra ea) }
+    ensures { result ≡ marked_if (reaches_past got) (loaded_state profile state got rt update ra ea) }
 {
     mark(
         state.loaded(profile, got, rt, update, ra, ea),
-        load_reaches(got),
+        reaches_past(got),
     )
 }
 
 fn stored_marked(
     profile: Profile,
     state: State,
-    done: Access,
+    done: Result<(), Fault>,
     update: bool,
     ra: u8,
     ea: u32,
@@ -55,6 +54,7 @@ fn stored_marked(
     )
 }
 
+#[tactic(auto, unfolding(machine::specs::LoadStore::load_store_of, machine::specs::LoadStore::store_at, machine::specs::LoadStore::store_double_at))]
 pub fn load_store_marked(profile: Profile, state: State, mem: &mut [u8], i: LoadStore) -> State
     ensures { (result ≡ marked_of (load_store_of profile state mem.old i)) × (mem.new ≡ (load_store_of profile state mem.old i).mem) }
 {
@@ -67,27 +67,13 @@ pub fn load_store_marked(profile: Profile, state: State, mem: &mut [u8], i: Load
             d,
         } => {
             let ea = state.offset_ea(ra, d);
-            loaded_marked(
-                profile,
-                state,
-                load::load(&mem[..], ea, width),
-                rt,
-                update,
-                ra,
-                ea,
-            )
+            let got = load::load(&mem[..], ea, width);
+            loaded_marked(profile, state, got, rt, update, ra, ea)
         }
         LoadStore::LoadIndexed { width, rt, ra, rb } => {
             let ea = state.indexed_ea(ra, rb);
-            loaded_marked(
-                profile,
-                state,
-                load::load(&mem[..], ea, width),
-                rt,
-                false,
-                ra,
-                ea,
-            )
+            let got = load::load(&mem[..], ea, width);
+            loaded_marked(profile, state, got, rt, false, ra, ea)
         }
         LoadStore::Store {
             width,
@@ -110,7 +96,7 @@ pub fn load_store_marked(profile: Profile, state: State, mem: &mut [u8], i: Load
             let got = load::load_double(&mem[..], ea);
             mark(
                 state.loaded_double(profile, got, dt, update, ra, ea),
-                double_reaches(got),
+                reaches_past(got),
             )
         }
         LoadStore::StoreDouble { update, ds, ra, d } => {
@@ -121,13 +107,12 @@ pub fn load_store_marked(profile: Profile, state: State, mem: &mut [u8], i: Load
     }
 }
 
+#[tactic(auto, unfolding(machine::specs::Cache::cache_of, machine::specs::Cache::clear_at))]
 fn cache_reaches(profile: Profile, state: State, mem: &[u8], op: CacheOp, ra: u8, rb: u8) -> bool
     ensures { result ≡ (cache_of profile state mem.now op ra rb).past }
 {
     match op {
-        CacheOp::Dcbf => false,
-        CacheOp::Dcbi => false,
-        CacheOp::Dcbt => false,
+        CacheOp::Dcbf | CacheOp::Dcbi | CacheOp::Dcbt => false,
         CacheOp::Dcbz => reaches_past(block_access(mem.len(), state.indexed_ea(ra, rb))),
     }
 }
@@ -147,15 +132,11 @@ pub fn cache_marked(
 }
 
 fn stack_reaches(state: State, len: usize, op: StackOp, ra: u8, dd: u16) -> bool
-    ensures { result ≡ missed_past (frame_missed len op (gpr_of state ra) (frame_ea state ra dd) (doublewords op dd)) }
+    ensures { result ≡ frame_past (frame_served len op (gpr_of state ra) (frame_ea state ra dd) (doublewords op dd)) }
 {
-    let sp = state.reg(ra);
-    let ea = state.frame_ea(ra, dd);
-    let missed = frame_missed(len, op, sp, ea, doublewords(op, dd));
-    match missed {
-        Missed::Nothing => false,
-        Missed::Unaligned(_) => false,
-        Missed::Outside(_) => true,
+    match frame_served(len, op, state.frame(op, ra, dd)) {
+        Ok(()) => false,
+        Err(missed) => matches!(missed.fault, Fault::Outside),
     }
 }
 
@@ -173,6 +154,7 @@ pub fn stack_marked(
     mark(state.stack(profile, mem, op, ra, dd), past)
 }
 
+#[tactic(auto, unfolding(machine::specs::Step::execute_of))]
 fn execute_marked(profile: Profile, state: State, mem: &mut [u8], word: u32, i: Instr) -> State
     ensures { (result ≡ marked_of (execute_of profile state mem.old word i)) × (mem.new ≡ (execute_of profile state mem.old word i).mem) }
 {
@@ -182,45 +164,35 @@ fn execute_marked(profile: Profile, state: State, mem: &mut [u8], word: u32, i: 
         Instr::Compare(i) => state.compare(i),
         Instr::Rotate(i) => state.rotate(i),
         Instr::LoadStore(i) => load_store_marked(profile, state, mem, i),
-        Instr::Stack { op, rt: _, ra, dd } => stack_marked(profile, state, mem, op, ra, dd),
+        Instr::Stack { op, ra, dd, .. } => stack_marked(profile, state, mem, op, ra, dd),
         Instr::Branch(i) => state.branch(i),
-        Instr::Trap {
-            to,
-            ra: _,
-            rb: _,
-            tg,
-        } => state.trap(profile, word, to, tg),
+        Instr::Trap { to, tg, .. } => state.trap(profile, word, to, tg),
         Instr::System(i) => state.system(profile, i),
-        Instr::Cache {
-            op,
-            hint: _,
-            ra,
-            rb,
-        } => cache_marked(profile, state, mem, op, ra, rb),
+        Instr::Cache { op, ra, rb, .. } => cache_marked(profile, state, mem, op, ra, rb),
     }
 }
 
 fn decoded_marked(profile: Profile, state: State, mem: &mut [u8], word: u32) -> State
     ensures { (result ≡ marked_of (decoded_of profile state mem.old word (decode_on profile word))) × (mem.new ≡ (decoded_of profile state mem.old word (decode_on profile word)).mem) }
 {
-    let what = read(profile, word);
-    match what {
-        Decoded::Insn(i) => execute_marked(profile, state, mem, word, i),
-        Decoded::Illegal => state.program(profile, word, false),
+    match read(profile, word) {
+        Some(i) => execute_marked(profile, state, mem, word, i),
+        None => state.program(profile, word, false),
     }
 }
 
+#[tactic(auto, unfolding(machine::specs::Step::running_of))]
 fn running_marked(profile: Profile, state: State, mem: &mut [u8]) -> State
     ensures { (result ≡ marked_of (running_of profile state mem.old)) × (mem.new ≡ (running_of profile state mem.old).mem) }
 {
     let got = fetch(&mem[..], state.iar);
     match got {
-        Loaded::Value(word) => decoded_marked(profile, state, mem, word),
-        Loaded::Unaligned => state.instruction_storage(profile),
-        Loaded::Outside => mark(state.instruction_storage(profile), true),
+        Ok(word) => decoded_marked(profile, state, mem, word),
+        Err(_) => mark(state.instruction_storage(profile), reaches_past(got)),
     }
 }
 
+#[tactic(auto, unfolding(machine::specs::Step::awake_of))]
 fn awake_marked(profile: Profile, state: State, mem: &mut [u8]) -> State
     ensures { (result ≡ marked_of (awake_of profile state mem.old)) × (mem.new ≡ (awake_of profile state mem.old).mem) }
 {
@@ -233,13 +205,13 @@ fn awake_marked(profile: Profile, state: State, mem: &mut [u8]) -> State
 fn interruptible_marked(profile: Profile, state: State, mem: &mut [u8], event: u8) -> State
     ensures { (result ≡ marked_of (interruptible_of profile state mem.old (highest_of state event))) × (mem.new ≡ (interruptible_of profile state mem.old (highest_of state event)).mem) }
 {
-    let pending = state.highest(event);
-    match pending {
-        Pending::Take(v) => state.enter(profile, v),
-        Pending::Nothing => awake_marked(profile, state, mem),
+    match state.highest(event) {
+        Some(v) => state.enter(profile, v),
+        None => awake_marked(profile, state, mem),
     }
 }
 
+#[tactic(auto, unfolding(machine::specs::Step::counted_of))]
 fn counted_marked(profile: Profile, state: State, mem: &mut [u8], event: u8) -> State
     ensures { (result ≡ marked_of (counted_of profile state mem.old event)) × (mem.new ≡ (counted_of profile state mem.old event).mem) }
 {
@@ -252,6 +224,7 @@ fn counted_marked(profile: Profile, state: State, mem: &mut [u8], event: u8) -> 
 }
 
 // The step's lines in their order; only the last reaches anything.
+#[tactic(auto, unfolding(machine::specs::Step::step_of))]
 pub fn step_marked(profile: Profile, state: State, mem: &mut [u8], event: u8) -> State
     ensures { (result ≡ marked_of (step_of profile state mem.old event)) × (mem.new ≡ (step_of profile state mem.old event).mem) }
 {

@@ -8,9 +8,10 @@ use borrow.Author.Tests.{le-leb, leb-true, lt-leb, eq-eqb, eqb-true, eqb-false}
 use Rattle.word.specs.Width.{bytes}
 use Rattle.word.specs.declared.width.Width.{Width}
 use Rattle.word.proofs.Truth.{never}
-use Rattle.memory.specs.Access.{pick, aligned_of, placed_of, access_of, fetch_access_of}
+use Rattle.memory.specs.Access.{pick, judged, aligned_of, placed_of, access_of, fetch_access_of}
 use Rattle.memory.specs.Store.{block_at}
-use Rattle.memory.specs.declared.access.Access.{Access}
+use Rattle.std.specs.Prelude.{Err}
+use Rattle.memory.specs.declared.access.Fault.{Fault}
 
 same_truth : (p q : Bool) → (p ≡ true → q ≡ true) → (q ≡ true → p ≡ true) → p ≡ q
 same_truth true true h k = refl
@@ -54,17 +55,17 @@ pub double_by_eight : (a : ℕ) → placed_of a 8 ≡ aligned_of a 8
 double_by_eight a = double_cases a (aligned_of a 8) refl
 
 -- the block of dcbz is judged by where it ends alone
-pub block_placed : (m a : ℕ) → access_of m (block_at a) 32 ≡ pick (leb (block_at a + 32) m) Access.Served Access.Outside
+pub block_placed : (m a : ℕ) → access_of m (block_at a) 32 ≡ judged true (block_at a + 32) m
 unfolding access_of
 block_placed m a = rw (eq-eqb (a / 32 * 32 % 32) 0 (omega arith))
 
 -- an instruction, by four and then by where it ends
 fetch_cases : (m a : ℕ) (p : Bool) → aligned_of a 4 ≡ p
-    → pick p (access_of m a 4) Access.Unaligned ≡ pick p (pick (leb (a + 4) m) Access.Served Access.Outside) Access.Unaligned
+    → pick p (access_of m a 4) (Err Fault.Unaligned) ≡ judged p (a + 4) m
 unfolding access_of
 fetch_cases m a true e = rw e
 fetch_cases m a false e = refl
 
-pub fetch_by_four : (m a : ℕ) → fetch_access_of m a ≡ pick (aligned_of a 4) (pick (leb (a + 4) m) Access.Served Access.Outside) Access.Unaligned
+pub fetch_by_four : (m a : ℕ) → fetch_access_of m a ≡ judged (aligned_of a 4) (a + 4) m
 unfolding fetch_access_of
 fetch_by_four m a = fetch_cases m a (aligned_of a 4) refl

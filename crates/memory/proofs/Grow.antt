@@ -9,10 +9,10 @@ use lib.Seq.{set-append_left, sets, length-sets}
 use lib.Dec.{leb}
 use borrow.Author.Tests.{le-leb, leb-true}
 use Rattle.word.specs.declared.width.Width.{Width}
-use Rattle.memory.specs.declared.access.Access.{Access}
+use Rattle.std.specs.Prelude.{Ok, Err}
 use Rattle.word.specs.Width.{bytes}
-use Rattle.memory.specs.Access.{pick, aligned_of, placed_of, access_of, fetch_access_of, reaches_past}
-use Rattle.memory.specs.Load.{value_at, double_at, loaded, load_of, loaded_double, load_double_of, fetch_of}
+use Rattle.memory.specs.Access.{Access, judged, aligned_of, placed_of, access_of, fetch_access_of, reaches_past}
+use Rattle.memory.specs.Load.{value_at, double_at, loaded, load_of, load_double_of, fetch_of}
 use Rattle.memory.specs.Store.{bytes_of, double_bytes, written, stored_of, stored_double_of, block_at, cleared_of}
 use Rattle.word.proofs.Truth.{never}
 use Rattle.memory.proofs.Board.{fetch_by_four}
@@ -22,10 +22,10 @@ leb_grow : (k : ℕ) (m x : List ℕ) → leb k (length m) ≡ true → leb k (l
 leb_grow k m x t = le-leb k (length (m ++ x)) (omega (arith, leb-true k (length m) t, length-append m x))
 
 access_cases : (m x : List ℕ) (k : ℕ) (p q : Bool) → leb k (length m) ≡ q
-    → reaches_past (pick p (pick q Access.Served Access.Outside) Access.Unaligned) ≡ false
-    → pick p (pick (leb k (length (m ++ x))) Access.Served Access.Outside) Access.Unaligned ≡ pick p (pick q Access.Served Access.Outside) Access.Unaligned
-access_cases m x k true true e h = rw (leb_grow k m x e)
-access_cases m x k true false e h = never h
+    → reaches_past (judged p k (length m)) ≡ false
+    → judged p k (length (m ++ x)) ≡ judged p k (length m)
+access_cases m x k true true e h = rw (leb_grow k m x e, e)
+access_cases m x k true false e h = never (rw e at h)
 access_cases m x k false q e h = refl
 
 -- what did not reach past the memory is judged as before
@@ -45,10 +45,9 @@ value_grow Width.Half m x a h = rw (get_or-append m x 0 a (omega arith), get_or-
 value_grow Width.Word m x a h =
     rw (get_or-append m x 0 a (omega arith), get_or-append m x 0 (a + 1) (omega arith), get_or-append m x 0 (a + 2) (omega arith), get_or-append m x 0 (a + 3) (omega arith))
 
-loaded_grow : (w : Width) (m x : List ℕ) (a : ℕ) (k : Access) → (k ≡ Access.Served → a + bytes w ≤ length m) → loaded k (value_at w (m ++ x) a) ≡ loaded k (value_at w m a)
-loaded_grow w m x a Access.Served e = rw (value_grow w m x a (e refl))
-loaded_grow w m x a Access.Unaligned e = refl
-loaded_grow w m x a Access.Outside e = refl
+loaded_grow : (w : Width) (m x : List ℕ) (a : ℕ) (k : Access) → (k ≡ Ok tt → a + bytes w ≤ length m) → loaded k (value_at w (m ++ x) a) ≡ loaded k (value_at w m a)
+loaded_grow w m x a (Ok tt) e = rw (value_grow w m x a (e refl))
+loaded_grow w m x a (Err f) e = refl
 
 pub load_grow : (m x : List ℕ) (a : ℕ) (w : Width) → reaches_past (access_of (length m) a (bytes w)) ≡ false → load_of (m ++ x) a w ≡ load_of m a w
 unfolding load_of
@@ -62,10 +61,9 @@ double_grow : (m x : List ℕ) (a : ℕ) → a + 8 ≤ length m → double_at (m
 unfolding double_at
 double_grow m x a h = rw (value_grow Width.Word m x a (omega arith), value_grow Width.Word m x (a + 4) (omega arith))
 
-loaded_double_grow : (m x : List ℕ) (a : ℕ) (k : Access) → access_of (length m) a 8 ≡ k → loaded_double k (double_at (m ++ x) a) ≡ loaded_double k (double_at m a)
-loaded_double_grow m x a Access.Served e = rw (double_grow m x a (served_inside (length m) a 8 e))
-loaded_double_grow m x a Access.Unaligned e = refl
-loaded_double_grow m x a Access.Outside e = refl
+loaded_double_grow : (m x : List ℕ) (a : ℕ) (k : Access) → access_of (length m) a 8 ≡ k → loaded k (double_at (m ++ x) a) ≡ loaded k (double_at m a)
+loaded_double_grow m x a (Ok tt) e = rw (double_grow m x a (served_inside (length m) a 8 e))
+loaded_double_grow m x a (Err f) e = refl
 
 pub load_double_grow : (m x : List ℕ) (a : ℕ) → reaches_past (access_of (length m) a 8) ≡ false → load_double_of (m ++ x) a ≡ load_double_of m a
 unfolding load_double_of
@@ -78,9 +76,8 @@ sets_grow (v ∷ vs) m x a h =
     rw (set-append_left m x a v (omega arith)) (sets_grow vs (set m a v) x (suc a) (simp length-set (omega arith)))
 
 written_grow : (m x : List ℕ) (a : ℕ) (bs : List ℕ) (k : Access) → access_of (length m) a (length bs) ≡ k → written k (m ++ x) a bs ≡ written k m a bs ++ x
-written_grow m x a bs Access.Served e = sets_grow bs m x a (served_inside (length m) a (length bs) e)
-written_grow m x a bs Access.Unaligned e = refl
-written_grow m x a bs Access.Outside e = refl
+written_grow m x a bs (Ok tt) e = sets_grow bs m x a (served_inside (length m) a (length bs) e)
+written_grow m x a bs (Err f) e = refl
 
 pub bytes_length : (w : Width) (v : ℕ) → length (bytes_of w v) ≡ bytes w
 unfolding bytes_of
@@ -112,9 +109,8 @@ clear_grow m x a h =
 
 -- no store changes how long the memory is
 written_length : (k : Access) (m : List ℕ) (a : ℕ) (bs : List ℕ) → length (written k m a bs) ≡ length m
-written_length Access.Served m a bs = length-sets m a bs
-written_length Access.Unaligned m a bs = refl
-written_length Access.Outside m a bs = refl
+written_length (Ok u) m a bs = length-sets m a bs
+written_length (Err f) m a bs = refl
 
 pub stored_length : (m : List ℕ) (a : ℕ) (w : Width) (v : ℕ) → length (stored_of m a w v) ≡ length m
 unfolding stored_of

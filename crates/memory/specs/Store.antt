@@ -1,10 +1,9 @@
 -- Stores of the last bytes of a value, and dcbz's block (2.4.1, 9.4.34).
-use Rattle.std.specs.Prelude.{ℕ, ◌*◌, ◌/◌, ◌%◌, ◌^◌, List, [], ◌∷◌, ◌++◌, length, replicate}
+use Rattle.std.specs.Prelude.{ℕ, ◌*◌, ◌/◌, ◌%◌, ◌^◌, List, [], ◌∷◌, ◌++◌, length, replicate, Ok, Err}
 use Rattle.std.proofs.lemmas.List.Edits.{sets}
 use Rattle.word.specs.Width.{bytes}
-use Rattle.memory.specs.Access.{access_of}
+use Rattle.memory.specs.Access.{Access, access_of}
 use Rattle.word.specs.declared.width.Width.{Width}
-use Rattle.memory.specs.declared.access.Access.{Access}
 
 -- the last bytes of a value, the most significant first
 unfoldable pub bytes_of : Width → ℕ → List ℕ
@@ -18,9 +17,8 @@ double_bytes v = bytes_of Width.Word (v / 2 ^ 32) ++ bytes_of Width.Word (v % 2 
 
 -- memory with those bytes from address a on, if the access is served
 abbrev pub written : Access → List ℕ → ℕ → List ℕ → List ℕ
-written Access.Served m a bs = sets m a bs
-written Access.Unaligned m a bs = m
-written Access.Outside m a bs = m
+written (Ok u) m a bs = sets m a bs
+written (Err f) m a bs = m
 
 unfoldable pub stored_of : List ℕ → ℕ → Width → ℕ → List ℕ
 stored_of m a w v = written (access_of (length m) a (bytes w)) m a (bytes_of w v)

@@ -1,16 +1,14 @@
 // What becomes of an access: the board's rule.
-ghost use Rattle.std.specs.Prelude.{◌≡◌, leb};
+ghost use Rattle.std.specs.Prelude.{◌≡◌};
 ghost use Rattle.word.specs.Width.{bytes};
-ghost use Rattle.memory.specs.Access.{pick, aligned_of, placed_of, access_of, reaches_past, sized_of};
+ghost use Rattle.memory.specs.Access.{aligned_of, placed_of, judged, access_of, reaches_past, sized_of};
 ghost use Rattle.memory.specs.Store.{block_at};
-ghost use Rattle.memory.specs.declared.access.Access.{Access};
 
 use word::width::{Width, size};
 
-// What becomes of it: unaligned is what is not served for its address, wherever that is.
+// Why an access is not served: unaligned is what is not for its address, wherever that is.
 #[derive(Clone, Copy)]
-pub enum Access {
-    Served,
+pub enum Fault {
     Unaligned,
     Outside,
 }
@@ -34,53 +32,52 @@ fn placed(address: u32, width: Width) -> bool
 }
 
 // By whether it is so placed, then by where it ends in `len` bytes of lent memory.
-fn judged(placed: bool, past: usize, len: usize) -> Access
-    ensures { result ≡ pick placed (pick (leb past len) Access.Served Access.Outside) Access.Unaligned }
+fn judged(placed: bool, past: usize, len: usize) -> Result<(), Fault>
+    ensures { result ≡ judged placed past len }
 {
-    if placed {
-        if past <= len {
-            Access::Served
-        } else {
-            Access::Outside
-        }
+    if !placed {
+        return Err(Fault::Unaligned);
+    }
+    if past <= len {
+        Ok(())
     } else {
-        Access::Unaligned
+        Err(Fault::Outside)
     }
 }
 
 // An access of a width at an address, in `len` bytes of lent memory.
-pub fn access_at(len: usize, address: u32, width: Width) -> Access
+#[tactic(auto, unfolding(crate::specs::Access::access_of))]
+pub fn access_at(len: usize, address: u32, width: Width) -> Result<(), Fault>
     ensures { result ≡ access_of len address (bytes width) }
 {
     judged(placed(address, width), address as usize + size(width), len)
 }
 
 // An access of a doubleword.
-pub fn double_access(len: usize, address: u32) -> Access
+#[tactic(auto, using(crate::proofs::Board::double_by_eight), unfolding(crate::specs::Access::access_of))]
+pub fn double_access(len: usize, address: u32) -> Result<(), Fault>
     ensures { result ≡ access_of len address 8 }
 {
     judged(address % 8 == 0, address as usize + 8, len)
 }
 
 // The aligned block of 32 bytes that holds an address.
-pub fn block_access(len: usize, address: u32) -> Access
+#[tactic(auto, using(crate::proofs::Board::block_placed))]
+pub fn block_access(len: usize, address: u32) -> Result<(), Fault>
     ensures { result ≡ access_of len (block_at address) 32 }
 {
     judged(true, (address / 32 * 32) as usize + 32, len)
 }
 
 // Whether an access fell outside and was no alignment interrupt.
-pub fn reaches_past(access: Access) -> bool
+pub fn reaches_past<T: Copy>(access: Result<T, Fault>) -> bool
     ensures { result ≡ reaches_past access }
 {
-    match access {
-        Access::Served => false,
-        Access::Unaligned => false,
-        Access::Outside => true,
-    }
+    matches!(access, Err(Fault::Outside))
 }
 
 // Whether lent memory has a length that the board has.
+#[tactic(auto, unfolding(crate::specs::Access::sized_of))]
 pub fn sized(len: usize) -> bool
     ensures { result ≡ sized_of len }
 {

@@ -5,16 +5,16 @@ use mathlib.Core.Bool.{Bool, true, false}
 use mathlib.Core.Logic.{inl, inr}
 use mathlib.Core.Path.{◌≡◌, refl, sym, ap, ◌∙◌}
 use mathlib.Core.List.{List, [], ◌∷◌}
-use lib.Dec.{leb}
 use lib.ListN.{get_or, length, set, replicate}
 use lib.Seq.{sets, get_or-set_other, length-sets}
 use borrow.Author.Tests.{eqb-true}
 use Rattle.word.specs.Width.{bytes}
 use Rattle.word.specs.declared.width.Width.{Width}
-use Rattle.memory.specs.Access.{pick, aligned_of, placed_of, access_of, fetch_access_of}
+use Rattle.memory.specs.Access.{Access, judged, pick, aligned_of, placed_of, access_of, fetch_access_of}
 use Rattle.memory.specs.Load.{value_at, loaded, fetch_of}
 use Rattle.memory.specs.Store.{bytes_of, double_bytes, written, stored_of, stored_double_of, block_at, cleared_of}
-use Rattle.memory.specs.declared.access.Access.{Access}
+use Rattle.memory.specs.declared.access.Fault.{Fault}
+use Rattle.std.specs.Prelude.{Ok, Err}
 use Rattle.memory.proofs.Board.{double_by_eight}
 use Rattle.memory.proofs.Laws.{bytes_le}
 use Rattle.memory.proofs.Grow.{bytes_length, double_length}
@@ -22,9 +22,9 @@ use Rattle.insn.specs.declared.instr.StackOp.{StackOp}
 use Rattle.insn.specs.declared.profile.Profile.{Profile}
 use Rattle.machine.specs.State.{gpr_of}
 use Rattle.machine.specs.After.{After, plain}
-use Rattle.machine.specs.Stack.{Part, pair, link, back, address_of, size_of, parts_of, pushed, memory_after, goes_on, framed_of, frame_ea, doublewords, stack_of}
+use Rattle.machine.specs.Stack.{Part, address_of, size_of, parts_of, pushed, memory_after, goes_on, framed_of, frame_ea, doublewords, stack_of}
 use Rattle.machine.specs.declared.state.State.{State}
-use Rattle.machine.proofs.Frames.{pop_memory}
+use Rattle.machine.proofs.Frames.{pop_memory, pushed_length}
 use Rattle.entries.specs.Tags.{Apart}
 
 -- a byte before those that are set, and one after them
@@ -44,7 +44,7 @@ value_apart vs m a t (inr h) =
     rw (sets_after vs m a t (omega arith), sets_after vs m a (t + 1) (omega arith), sets_after vs m a (t + 2) (omega arith), sets_after vs m a (t + 3) (omega arith))
 
 -- where t is no word's address, what is fetched does not depend on memory
-word_cases : (t x y : ℕ) (k : Access) (p : Bool) → aligned_of t 4 ≡ p → (t % 4 ≡ 0 → x ≡ y) → loaded (pick p k Access.Unaligned) x ≡ loaded (pick p k Access.Unaligned) y
+word_cases : (t x y : ℕ) (k : Access) (p : Bool) → aligned_of t 4 ≡ p → (t % 4 ≡ 0 → x ≡ y) → loaded (pick p k (Err Fault.Unaligned)) x ≡ loaded (pick p k (Err Fault.Unaligned)) y
 word_cases t x y k true e h = ap (loaded k) (h (eqb-true (t % 4) 0 e))
 word_cases t x y k false e h = refl
 
@@ -54,19 +54,18 @@ fetch_sets m vs a t h =
     rw (length-sets m a vs)
     (word_cases t (value_at Width.Word (sets m a vs) t) (value_at Width.Word m t) (access_of (length m) t 4) (aligned_of t 4) refl (λ z. value_apart vs m a t (h z)))
 
-fetch_written : (k : Access) (m bs : List ℕ) (a t : ℕ) → (k ≡ Access.Served → t % 4 ≡ 0 → Apart t a (length bs)) → fetch_of (written k m a bs) t ≡ fetch_of m t
-fetch_written Access.Served m bs a t h = fetch_sets m bs a t (h refl)
-fetch_written Access.Unaligned m bs a t h = refl
-fetch_written Access.Outside m bs a t h = refl
+fetch_written : (k : Access) (m bs : List ℕ) (a t : ℕ) → (k ≡ Ok tt → t % 4 ≡ 0 → Apart t a (length bs)) → fetch_of (written k m a bs) t ≡ fetch_of m t
+fetch_written (Ok tt) m bs a t h = fetch_sets m bs a t (h refl)
+fetch_written (Err f) m bs a t h = refl
 
 -- what is served is well placed
-placed_cases : (p q : Bool) → pick p (pick q Access.Served Access.Outside) Access.Unaligned ≡ Access.Served → p ≡ true
-placed_cases true q h = refl
-placed_cases false q h = let z : ◌≡◌ {A = ℕ} 0 1 = cc in absurd (omega arith)
+placed_cases : (m k : ℕ) (p : Bool) → judged p k m ≡ Ok tt → p ≡ true
+placed_cases m k true h = refl
+placed_cases m k false h = absurd cc
 
-served_placed : (m a n : ℕ) → access_of m a n ≡ Access.Served → placed_of a n ≡ true
+served_placed : (m a n : ℕ) → access_of m a n ≡ Ok tt → placed_of a n ≡ true
 unfolding access_of
-served_placed m a n h = placed_cases (placed_of a n) (leb (a + n) m) h
+served_placed m a n h = placed_cases m (a + n) (placed_of a n) h
 
 -- a store or clear leaves what is fetched at a word that it has nothing in common with; where it is not served, at every word
 pub fetch_stored : (m : List ℕ) (a t : ℕ) (w : Width) (v : ℕ) → (t % 4 ≡ 0 → Apart t a (bytes w)) → fetch_of (stored_of m a w v) t ≡ fetch_of m t
@@ -94,17 +93,11 @@ abbrev pub PartsApart : ℕ → List Part → Type 0
 PartsApart t [] = Unit {0}
 PartsApart t (x ∷ xs) = (placed_of (address_of x) (size_of x) ≡ true → t % 4 ≡ 0 → Apart t (address_of x) (size_of x)) × PartsApart t xs
 
-pushed_length : (ra : ℕ) (x : Part) (s : State) → length (pushed ra x s) ≡ size_of x
-pushed_length ra (pair n a) s = double_length _
-pushed_length ra (link a) s = bytes_length Width.Word _
-pushed_length ra (back a) s = bytes_length Width.Word _
-
 -- an access that is not served ends the frame with the memory as it was
-push_cases : (p : Profile) (s : State) (m : List ℕ) (a t : ℕ) (k : Access) (rest : After) → (k ≡ Access.Served → fetch_of rest.mem t ≡ fetch_of m t)
+push_cases : (p : Profile) (s : State) (m : List ℕ) (a t : ℕ) (k : Access) (rest : After) → (k ≡ Ok tt → fetch_of rest.mem t ≡ fetch_of m t)
     → fetch_of (goes_on p s m true a k rest).mem t ≡ fetch_of m t
-push_cases p s m a t Access.Served rest h = h refl
-push_cases p s m a t Access.Unaligned rest h = refl
-push_cases p s m a t Access.Outside rest h = refl
+push_cases p s m a t (Ok tt) rest h = h refl
+push_cases p s m a t (Err f) rest h = refl
 
 pub fetch_framed : (p : Profile) (ra sp ea : ℕ) (xs : List Part) (s : State) (m : List ℕ) (t : ℕ) → PartsApart t xs → fetch_of (framed_of p StackOp.Stsku ra sp ea xs s m).mem t ≡ fetch_of m t
 unfolding framed_of

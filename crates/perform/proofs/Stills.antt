@@ -4,7 +4,7 @@ use native.Mathlib.Omega.{arith}
 use mathlib.Core.Bool.{Bool, true, false}
 use mathlib.Core.Path.{◌≡◌, refl, ◌∙◌}
 use mathlib.Core.List.{List, [], ◌∷◌}
-use lib.Dec.{ltb, lit<, lit≤}
+use lib.Dec.{ltb}
 use Rattle.word.specs.Width.{bytes}
 use Rattle.word.specs.declared.width.Width.{Width}
 use Rattle.memory.specs.Access.{pick, aligned_of}
@@ -27,12 +27,6 @@ use Rattle.entries.specs.Tags.{tag_at, set_of, Fewer, Without}
 use Rattle.entries.proofs.Drops.{fewer_yet, without_yet}
 use Rattle.perform.specs.Performed.{found_of, performed_of, Framed, Still}
 use Rattle.perform.proofs.Apart.{fetch_stored, fetch_stored_double, fetch_cleared, fetch_stack, width_fits, double_fits, PartsApart}
-
--- a width is a number of bytes that can be dropped
-pub bytes_some : (w : Width) → (0 < bytes w) × (bytes w ≤ 8)
-bytes_some Width.Byte = (lit< tt, lit≤ tt)
-bytes_some Width.Half = (lit< tt, lit≤ tt)
-bytes_some Width.Word = (lit< tt, lit≤ tt)
 
 pub still_same : (t : List (List ℕ)) (m : List ℕ) → Still t t m m
 unfolding Still

@@ -1,21 +1,21 @@
 -- Line 6 of a step on a word already read, and what it leaves of the entries. This serves code alone.
-use Rattle.std.specs.Prelude.{ℕ, ◌+◌, ◌%◌, ◌^◌, ◌-◌, ◌<◌, ◌≤◌, true, ◌≡◌, List}
+use Rattle.std.specs.Prelude.{ℕ, ◌+◌, ◌%◌, ◌^◌, ◌-◌, ◌<◌, ◌≤◌, ◌≡◌, List, Ok, Err}
+use Rattle.memory.specs.Access.{reaches_past}
 use Rattle.memory.specs.Load.{fetch_of}
 use Rattle.insn.specs.Fields.{fields_of}
 use Rattle.insn.specs.declared.profile.Profile.{Profile}
-use Rattle.machine.specs.After.{After, plain}
+use Rattle.machine.specs.After.{After}
 use Rattle.machine.specs.Interrupt.{interrupted_of}
 use Rattle.machine.specs.Step.{decoded_of}
 use Rattle.machine.specs.declared.state.State.{State}
 use Rattle.machine.specs.declared.interrupt.Cause.{Cause}
-use Rattle.reading.specs.Form.{Found, unaligned, outside, decoded, made_of}
+use Rattle.reading.specs.Form.{Found, made_of}
 use Rattle.reading.specs.declared.form.Form.{Form}
 use Rattle.entries.specs.Tags.{tag_at, set_of, Fewer, Without}
 
 abbrev pub found_of : Profile → State → List ℕ → ℕ → Found → After
-found_of p s m w unaligned = plain (interrupted_of p s Cause.InstructionStorage) m
-found_of p s m w outside = record { st = interrupted_of p s Cause.InstructionStorage; mem = m; past = true }
-found_of p s m w (decoded d) = decoded_of p s m w d
+found_of p s m w (Ok d) = decoded_of p s m w d
+found_of p s m w (Err f) = record { st = interrupted_of p s Cause.InstructionStorage; mem = m; past = reaches_past {A = ℕ} (Err f) }
 
 unfoldable pub performed_of : Profile → State → List ℕ → ℕ → Form → After
 performed_of p s m w form = found_of p s m w (made_of form (fields_of w))

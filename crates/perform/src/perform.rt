@@ -4,6 +4,7 @@ ghost use Rattle.marked.specs.Mark.{marked_of};
 ghost use Rattle.perform.specs.Performed.{performed_of, Still};
 
 use crate::store;
+use entries::tags::Tags;
 use insn::fields::fields_of;
 use insn::instr::*;
 use insn::profile::Profile;
@@ -17,7 +18,7 @@ fn perform(
     profile: Profile,
     state: State,
     mem: &mut [u8],
-    tags: &mut [[u64; 4]; 64],
+    tags: &mut Tags,
     word: u32,
     form: Form,
 ) -> State
@@ -342,7 +343,7 @@ pub fn carry_out(
     profile: Profile,
     state: State,
     mem: &mut [u8],
-    tags: &mut [[u64; 4]; 64],
+    tags: &mut Tags,
     reading: Reading,
 ) -> State
     ensures { (result ≡ marked_of (performed_of profile state mem.old reading.word reading.form)) × ((mem.new ≡ (performed_of profile state mem.old reading.word reading.form).mem) × Still tags.old tags.new mem.old mem.new) }

@@ -7,7 +7,7 @@ ghost use Rattle.machine.specs.Stack.{stack_of};
 ghost use Rattle.marked.specs.Mark.{marked_of};
 ghost use Rattle.perform.specs.Performed.{Framed, Still};
 
-use entries::tags::{drop_block, drop_bytes};
+use entries::tags::{Tags, drop_block, drop_bytes};
 use insn::instr::{CacheOp, LoadStore, StackOp};
 use insn::profile::Profile;
 use machine::state::State;
@@ -19,7 +19,7 @@ pub fn store(
     profile: Profile,
     state: State,
     mem: &mut [u8],
-    tags: &mut [[u64; 4]; 64],
+    tags: &mut Tags,
     width: Width,
     update: bool,
     rs: u8,
@@ -43,7 +43,7 @@ pub fn store_indexed(
     profile: Profile,
     state: State,
     mem: &mut [u8],
-    tags: &mut [[u64; 4]; 64],
+    tags: &mut Tags,
     width: Width,
     rs: u8,
     ra: u8,
@@ -60,7 +60,7 @@ pub fn store_double(
     profile: Profile,
     state: State,
     mem: &mut [u8],
-    tags: &mut [[u64; 4]; 64],
+    tags: &mut Tags,
     update: bool,
     ds: u8,
     ra: u8,
@@ -74,11 +74,12 @@ pub fn store_double(
 }
 
 // Of the cache instructions only dcbz clears.
+#[tactic(auto, using(crate::proofs::Stills::still_same), unfolding(machine::specs::Cache::cache_of))]
 pub fn cache(
     profile: Profile,
     state: State,
     mem: &mut [u8],
-    tags: &mut [[u64; 4]; 64],
+    tags: &mut Tags,
     op: CacheOp,
     ra: u8,
     rb: u8,
@@ -86,9 +87,7 @@ pub fn cache(
     ensures { (result ≡ marked_of (cache_of profile state mem.old op ra rb)) × ((mem.new ≡ (cache_of profile state mem.old op ra rb).mem) × Still tags.old tags.new mem.old mem.new) }
 {
     match op {
-        CacheOp::Dcbf => state.next(),
-        CacheOp::Dcbi => state.next(),
-        CacheOp::Dcbt => state.next(),
+        CacheOp::Dcbf | CacheOp::Dcbi | CacheOp::Dcbt => state.next(),
         CacheOp::Dcbz => {
             drop_block(tags, state.indexed_ea(ra, rb));
             cache_marked(profile, state, mem, CacheOp::Dcbz, ra, rb)
@@ -97,7 +96,7 @@ pub fn cache(
 }
 
 // Of a frame stsku may store LR, two pairs and the back pointer.
-fn drop_frame(tags: &mut [[u64; 4]; 64], sp: u32, ea: u32)
+fn drop_frame(tags: &mut Tags, sp: u32, ea: u32)
     ensures { Framed tags.old tags.new sp ea }
 {
     drop_bytes(tags, plus(sp, 4), 4);
@@ -110,7 +109,7 @@ pub fn stack(
     profile: Profile,
     state: State,
     mem: &mut [u8],
-    tags: &mut [[u64; 4]; 64],
+    tags: &mut Tags,
     op: StackOp,
     ra: u8,
     dd: u16,

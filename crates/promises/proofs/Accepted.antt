@@ -1,4 +1,6 @@
 -- What a run leaves is accepted again: a state with no refusal, and a memory as long as before. Assumes nothing.
+use Rattle.machine.specs.Interrupt.{cause_of}
+use Rattle.std.specs.Prelude.{Some, None, Option, Ok, Err}
 use Prim.Native.Nat.{ℕ, zero, suc}
 use mathlib.Core.Bool.{Bool, false}
 use mathlib.Core.Path.{◌≡◌, refl, ap, ◌∙◌}
@@ -8,22 +10,21 @@ use lib.ListN.{length, get_or}
 use Rattle.word.specs.Bits.{bit_at}
 use Rattle.word.specs.Width.{bytes}
 use Rattle.word.specs.declared.width.Width.{Width}
-use Rattle.memory.specs.Access.{aligned_of, access_of, sized_of}
-use Rattle.memory.specs.Load.{load_of, load_double_of, fetch_of}
+use Rattle.memory.specs.Access.{Access, aligned_of, access_of, sized_of}
+use Rattle.memory.specs.Load.{Loaded, load_of, load_double_of, fetch_of}
 use Rattle.memory.specs.Store.{block_at}
-use Rattle.memory.specs.declared.access.Access.{Access}
-use Rattle.memory.specs.declared.load.Loaded.{Loaded}
 use Rattle.memory.proofs.Grow.{stored_length, stored_double_length, cleared_length}
 use Rattle.insn.specs.Read.{decode_on}
 use Rattle.insn.specs.declared.instr.Instr.{Instr}
-use Rattle.insn.specs.declared.instr.Decoded.{Decoded}
 use Rattle.insn.specs.declared.instr.LoadStore.{LoadStore}
 use Rattle.insn.specs.declared.instr.StackOp.{StackOp}
 use Rattle.insn.specs.declared.instr.CacheOp.{CacheOp}
 use Rattle.insn.specs.declared.profile.Profile.{Profile}
 use Rattle.machine.specs.State.{gpr_of, vdr_of}
-use Rattle.machine.specs.Refusal.{accepts_of, unless, or_else}
-use Rattle.machine.specs.Register.{refusal_of, start_refusal}
+use Rattle.std.specs.Prelude.{Ok, is_ok}
+use Rattle.std.specs.Result.{result_and}
+use Rattle.machine.specs.Refusal.{Checked, unless}
+use Rattle.machine.specs.Register.{check_of, check_start}
 use Rattle.machine.specs.After.{After}
 use Rattle.machine.specs.LoadStore.{load_at, store_at, load_double_at, store_double_at, load_store_of}
 use Rattle.machine.specs.Stack.{Part, address_of, size_of, state_after, memory_after, stores_of, scratch_of, goes_on, framed_of, stack_of}
@@ -32,12 +33,12 @@ use Rattle.machine.specs.Timer.{ticked_of, acts_of}
 use Rattle.machine.specs.Step.{execute_of, decoded_of, fetched_of, running_of, awake_of, highest_of, interruptible_of, counted_of, step_of}
 use Rattle.machine.specs.declared.state.State.{State}
 use Rattle.machine.specs.declared.interrupt.Cause.{Cause}
-use Rattle.machine.specs.declared.step.Pending.{Pending}
+use Rattle.machine.specs.declared.interrupt.Vector.{Vector}
 use Rattle.machine.specs.declared.refusal.Refusal.{Refusal}
-use Rattle.machine.proofs.Refusals.{accepts_none, or_accepts}
+use Rattle.machine.proofs.Refusals.{accepts_ok, and_accepts}
 use Rattle.machine.proofs.Frames.{part_length}
 use Rattle.run.specs.Run.{Ran, run_of}
-use Rattle.run.specs.Outcome.{run_refusal}
+use Rattle.run.specs.Outcome.{check_run}
 use Rattle.promises.proofs.Sound.{Sound, picked, accepted_sound, sound_accepted, next_sound, entered_sound, interrupted_sound, ticked_sound, acted_sound, arithmetic_sound, logical_sound, compare_sound, rotate_sound, branch_sound, trap_sound, system_sound, loaded_sound, loaded_double_sound, stored_sound, cleared_sound, framed_sound, part_sound}
 
 -- from a state and a memory to others: a sound state stays sound, and the memory keeps its length
@@ -57,9 +58,8 @@ Left p s m a = Kept p s m a.st a.mem
 
 -- lsku and stsku: one access after the other
 part_left : (p : Profile) (s : State) (m : List ℕ) (store : Bool) (a : ℕ) (k : Access) (rest : After) → Left p s m rest → Left p s m (goes_on p s m store a k rest)
-part_left p s m store a Access.Served rest l = l
-part_left p s m store a Access.Unaligned rest l = untouched (λ k. interrupted_sound k (Cause.Alignment a store))
-part_left p s m store a Access.Outside rest l = untouched (λ k. interrupted_sound k (Cause.DataStorage a store))
+part_left p s m store a (Ok tt) rest l = l
+part_left p s m store a (Err f) rest l = untouched (λ k. interrupted_sound k (cause_of f a store))
 
 framed_left : (p : Profile) (op : StackOp) (ra sp ea : ℕ) (xs : List Part) (s : State) (m : List ℕ) → Left p s m (framed_of p op ra sp ea xs s m)
 unfolding framed_of
@@ -124,19 +124,18 @@ module _ (p : Profile) (s : State) (m : List ℕ) where
   execute_left w (Instr.System i) = untouched (λ k. system_sound k i)
   execute_left w (Instr.Cache op hint ra rb) = cache_left op ra rb
 
-  decoded_left : (w : ℕ) (d : Decoded) → Left p s m (decoded_of p s m w d)
-  decoded_left w (Decoded.Insn i) = execute_left w i
-  decoded_left w Decoded.Illegal = untouched (λ k. interrupted_sound k (Cause.Program w false))
+  decoded_left : (w : ℕ) (d : Option Instr) → Left p s m (decoded_of p s m w d)
+  decoded_left w (Some i) = execute_left w i
+  decoded_left w None = untouched (λ k. interrupted_sound k (Cause.Program w false))
 
   fetched_left : (l : Loaded) → Left p s m (fetched_of p s m l)
-  fetched_left (Loaded.Value w) = decoded_left w (decode_on p w)
-  fetched_left Loaded.Unaligned = untouched (λ k. interrupted_sound k Cause.InstructionStorage)
-  fetched_left Loaded.Outside = untouched (λ k. interrupted_sound k Cause.InstructionStorage)
+  fetched_left (Ok w) = decoded_left w (decode_on p w)
+  fetched_left (Err f) = untouched (λ k. interrupted_sound k Cause.InstructionStorage)
 
-  interruptible_left : (q : Pending) → Left p s m (interruptible_of p s m q)
+  interruptible_left : (q : Option Vector) → Left p s m (interruptible_of p s m q)
   unfolding awake_of running_of
-  interruptible_left (Pending.Take v) = untouched (λ k. entered_sound k v)
-  interruptible_left Pending.Nothing = picked (Left p s m) (bit_at s.msr 13) (untouched (λ k. k)) (fetched_left (fetch_of m s.iar))
+  interruptible_left (Some v) = untouched (λ k. entered_sound k v)
+  interruptible_left None = picked (Left p s m) (bit_at s.msr 13) (untouched (λ k. k)) (fetched_left (fetch_of m s.iar))
 
 step_left : (p : Profile) (s : State) (m : List ℕ) (e : ℕ) → Left p s m (step_of p s m e)
 unfolding step_of counted_of
@@ -155,7 +154,7 @@ run_left p (suc n) i ev s m =
     (untouched (λ k. k))
 
 -- a step from an accepted state leaves an accepted state
-pub step_accepted : (p : Profile) (s : State) (m : List ℕ) (e : ℕ) → refusal_of p s ≡ Refusal.None → refusal_of p (step_of p s m e).st ≡ Refusal.None
+pub step_accepted : (p : Profile) (s : State) (m : List ℕ) (e : ℕ) → check_of p s ≡ Ok tt → check_of p (step_of p s m e).st ≡ Ok tt
 step_accepted p s m e h = sound_accepted ((step_left p s m e).st (accepted_sound s h))
 
 -- from any state, a step keeps the memory's length
@@ -163,15 +162,15 @@ pub step_length : (p : Profile) (s : State) (m : List ℕ) (e : ℕ) → length 
 step_length p s m e = (step_left p s m e).mem
 
 -- two checks in a row that refuse nothing
-pub first_none : (a b : Refusal) → or_else a b ≡ Refusal.None → a ≡ Refusal.None
-first_none a b h = accepts_none a (or_accepts a b (ap accepts_of h)).0
+pub first_ok : (a b : Checked) → result_and a b ≡ Ok tt → a ≡ Ok tt
+first_ok a b h = accepts_ok a (and_accepts a b (ap is_ok h)).0
 
-pub second_none : (a b : Refusal) → or_else a b ≡ Refusal.None → b ≡ Refusal.None
-second_none a b h = rw (first_none a b h) at h
+pub second_ok : (a b : Checked) → result_and a b ≡ Ok tt → b ≡ Ok tt
+second_ok a b h = accepts_ok b (and_accepts a b (ap is_ok h)).1
 
 module _ (p : Profile) (n i : ℕ) (ev : List ℕ) (s : State) (m : List ℕ) where
   -- so does a run
-  pub run_accepted : refusal_of p s ≡ Refusal.None → refusal_of p (run_of p n i ev s m).st ≡ Refusal.None
+  pub run_accepted : check_of p s ≡ Ok tt → check_of p (run_of p n i ev s m).st ≡ Ok tt
   run_accepted h = sound_accepted ((run_left p n i ev s m).st (accepted_sound s h))
 
   -- from any state, a run keeps the memory's length
@@ -179,16 +178,16 @@ module _ (p : Profile) (n i : ℕ) (ev : List ℕ) (s : State) (m : List ℕ) wh
   run_length = (run_left p n i ev s m).mem
 
   -- a state and a memory that are accepted are accepted as a run left them
-  pub start_again : start_refusal p s (length m) ≡ Refusal.None → start_refusal p (run_of p n i ev s m).st (length (run_of p n i ev s m).mem) ≡ Refusal.None
-  unfolding start_refusal
+  pub start_again : check_start p s (length m) ≡ Ok tt → check_start p (run_of p n i ev s m).st (length (run_of p n i ev s m).mem) ≡ Ok tt
+  unfolding check_start
   start_again h =
-      let e : refusal_of p s ≡ Refusal.None = second_none (unless (sized_of (length m)) Refusal.Memory) (refusal_of p s) h in
+      let e : check_of p s ≡ Ok tt = second_ok (unless (sized_of (length m)) Refusal.Memory) (check_of p s) h in
       rw (run_length, run_accepted e) (rw e at h)
 
 -- a budget and events that are accepted with a state and a memory are accepted with what any run from there left
-pub run_again : (p : Profile) (n : ℕ) (ev : List ℕ) (s : State) (m : List ℕ) (ev' : List ℕ) (budget : ℕ) → run_refusal p s m ev' budget ≡ Refusal.None
-    → (let r = run_of p n 0 ev s m in run_refusal p r.st r.mem ev' budget ≡ Refusal.None)
-unfolding run_refusal
+pub run_again : (p : Profile) (n : ℕ) (ev : List ℕ) (s : State) (m : List ℕ) (ev' : List ℕ) (budget : ℕ) → check_run p s m ev' budget ≡ Ok tt
+    → (let r = run_of p n 0 ev s m in check_run p r.st r.mem ev' budget ≡ Ok tt)
+unfolding check_run
 run_again p n ev s m ev' budget h =
-    let e : start_refusal p s (length m) ≡ Refusal.None = first_none (start_refusal p s (length m)) _ h in
+    let e : check_start p s (length m) ≡ Ok tt = first_ok (check_start p s (length m)) _ h in
     rw (start_again p n 0 ev s m e) (rw e at h)

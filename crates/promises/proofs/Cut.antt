@@ -2,22 +2,22 @@
 use Prim.Native.Nat.{ℕ, zero, suc, ◌+◌, ◌-◌, ◌≤◌}
 use native.Mathlib.Omega.{arith}
 use native.Mathlib.Nat.{zero-add}
-use mathlib.Core.Bool.{Bool, true, false}
+use mathlib.Core.Bool.{Bool, true, false, ◌&&◌}
 use mathlib.Core.Path.{◌≡◌, refl, ap, sym, ◌∙◌}
 use mathlib.Core.List.{List}
 use lib.Dec.{eqb}
 use lib.ListN.{get_or}
-use Rattle.word.proofs.Truth.{never}
+use Rattle.std.specs.Prelude.{Ok, Err, is_ok}
+use Rattle.word.proofs.Truth.{never, and_left, and_right}
 use Rattle.memory.specs.Access.{pick}
 use Rattle.insn.specs.declared.profile.Profile.{Profile}
 use Rattle.machine.specs.After.{After}
 use Rattle.machine.specs.Step.{step_of}
-use Rattle.machine.specs.Refusal.{accepts_of}
+use Rattle.machine.specs.Refusal.{Checked}
 use Rattle.machine.specs.declared.state.State.{State}
-use Rattle.machine.specs.declared.refusal.Refusal.{Refusal}
+use Rattle.machine.proofs.Refusals.{accepts_ok}
 use Rattle.run.specs.Run.{Ran, run_of}
-use Rattle.run.specs.Outcome.{accepted, refused_with, answered, remembered}
-use Rattle.run.specs.declared.outcome.Outcome.{Outcome}
+use Rattle.run.specs.Outcome.{accepted, steps_of, answered, remembered}
 
 -- one step: `go` tells that the core runs, `met` that the step meets the test, and `rest` that a later one does
 module _ (go met rest : Bool) (f : ℕ → Ran) (k : ℕ) (halted : Ran) where
@@ -122,39 +122,34 @@ module _ (p : Profile) (test : After → Bool) where
       let k = cut_of n (suc i) ev a.st a.mem in
       rw (one_less (pick (test a) 0 k)) (turn_before i ev s m (test a) refl k (none_before n (suc i) ev a.st a.mem))
 
-same_answer : (b u : Bool) (x y : Ran) (o : Outcome) (m : List ℕ) → (u ≡ false → x ≡ y) → pick b u false ≡ false
-    → (pick b (accepted x) o ≡ pick b (accepted y) o) × (pick b x.mem m ≡ pick b y.mem m)
-same_answer true u x y o m g h = (ap accepted (g h), ap (λ (r : Ran). r.mem) (g h))
-same_answer false u x y o m g h = (refl, refl)
+same_answer : (c : Checked) (u : Bool) (x y : Ran) (m : List ℕ) → (u ≡ false → x ≡ y) → (is_ok c && u) ≡ false → (answered c x ≡ answered c y) × (remembered c m x ≡ remembered c m y)
+same_answer (Ok tt) u x y m g h = (ap (answered (Ok tt)) (g h), ap (λ (r : Ran). r.mem) (g h))
+same_answer (Err r) u x y m g h = (refl, refl)
 
-pub both_true : (b u : Bool) → pick b u false ≡ true → (b ≡ true) × (u ≡ true)
-both_true true u h = (refl, h)
-both_true false u h = never (sym h)
-
-module _ (p : Profile) (test : After → Bool) (r : Refusal) (s : State) (m ev : List ℕ) (budget : ℕ) where
+module _ (p : Profile) (test : After → Bool) (c : Checked) (s : State) (m ev : List ℕ) (budget : ℕ) where
   abbrev cut_run : Ran
   cut_run = run_of p (cut_of p test budget 0 ev s m) 0 ev s m
 
   -- none met: outcome and memory are the plain run's with the whole budget
-  pub cut_is_run : pick (accepts_of r) (met_of p test budget 0 ev s m) false ≡ false
-      → (answered r s cut_run ≡ answered r s (run_of p budget 0 ev s m)) × (remembered r m cut_run ≡ remembered r m (run_of p budget 0 ev s m))
-  cut_is_run h = same_answer (accepts_of r) (met_of p test budget 0 ev s m) cut_run (run_of p budget 0 ev s m) (refused_with s r) m (run_same p test budget 0 ev s m) h
+  pub cut_is_run : (is_ok c && met_of p test budget 0 ev s m) ≡ false
+      → (answered c cut_run ≡ answered c (run_of p budget 0 ev s m)) × (remembered c m cut_run ≡ remembered c m (run_of p budget 0 ev s m))
+  cut_is_run h = same_answer c (met_of p test budget 0 ev s m) cut_run (run_of p budget 0 ev s m) m (run_same p test budget 0 ev s m) h
 
   -- one met: they are those of the run of as many steps as it took, the last of which met the test and none before
-  pub cut_ends_first : pick (accepts_of r) (met_of p test budget 0 ev s m) false ≡ true
-      → (let n = (answered r s cut_run).steps in
-      (answered r s cut_run ≡ accepted (run_of p n 0 ev s m)) × ((remembered r m cut_run ≡ (run_of p n 0 ev s m).mem) × ((met_of p test (n - 1) 0 ev s m ≡ false) × (met_of p test n 0 ev s m ≡ true))))
+  pub cut_ends_first : (is_ok c && met_of p test budget 0 ev s m) ≡ true
+      → (let n = steps_of (answered c cut_run) in
+      (answered c cut_run ≡ Ok (accepted (run_of p n 0 ev s m))) × ((remembered c m cut_run ≡ (run_of p n 0 ev s m).mem) × ((met_of p test (n - 1) 0 ev s m ≡ false) × (met_of p test n 0 ev s m ≡ true))))
   cut_ends_first h =
-      let t = both_true (accepts_of r) (met_of p test budget 0 ev s m) h in
-      let c = cut_of p test budget 0 ev s m in
-      let q : (run_of p c 0 ev s m).steps ≡ c = all_taken p test budget 0 ev s m t.1 ∙ zero-add c in
-      rw t.0 (
-        ap (λ (k : ℕ). accepted (run_of p k 0 ev s m)) (sym q),
+      let met = and_right (is_ok c) (met_of p test budget 0 ev s m) h in
+      let cut = cut_of p test budget 0 ev s m in
+      let q : (run_of p cut 0 ev s m).steps ≡ cut = all_taken p test budget 0 ev s m met ∙ zero-add cut in
+      rw (accepts_ok c (and_left (is_ok c) (met_of p test budget 0 ev s m) h)) (
+        ap (λ (k : ℕ). answered (Ok tt) (run_of p k 0 ev s m)) (sym q),
         (
           ap (λ (k : ℕ). (run_of p k 0 ev s m).mem) (sym q),
           (
             ap (λ (k : ℕ). met_of p test (k - 1) 0 ev s m) q ∙ none_before p test budget 0 ev s m,
-            ap (λ (k : ℕ). met_of p test k 0 ev s m) q ∙ last_met p test budget 0 ev s m t.1,
+            ap (λ (k : ℕ). met_of p test k 0 ev s m) q ∙ last_met p test budget 0 ev s m met,
           ),
         ),
       )

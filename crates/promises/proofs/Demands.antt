@@ -9,13 +9,15 @@ use lib.Dec.{eqb, leb}
 use lib.ListN.{get_or, length}
 use Rattle.memory.specs.Access.{pick, sized_of}
 use Rattle.insn.specs.declared.profile.Profile.{Profile}
-use Rattle.machine.specs.Refusal.{accepts_of, unless, or_else}
-use Rattle.machine.specs.Register.{sound_of, refusal_of, start_refusal}
+use Rattle.std.specs.Prelude.{Ok, Err, is_ok}
+use Rattle.std.specs.Result.{result_and}
+use Rattle.machine.specs.Refusal.{unless}
+use Rattle.machine.specs.Register.{sound_of, check_of, check_start}
 use Rattle.machine.specs.Step.{step_of}
 use Rattle.machine.specs.declared.state.State.{State}
 use Rattle.machine.specs.declared.refusal.Refusal.{Refusal}
 use Rattle.run.specs.Run.{Ran, run_of, past_of}
-use Rattle.run.specs.Outcome.{events_good, events_refusal, run_refusal, step_refusal, refused_with, accepted, run_outcome, run_memory, step_outcome, step_memory}
+use Rattle.run.specs.Outcome.{events_good, check_events, check_run, check_step, accepted, state_left, steps_of, run_outcome, run_memory, step_outcome, step_memory}
 use Rattle.run.proofs.Laws.{run_halted}
 use Rattle.promises.specs.Growth.{grown_run, NeverAlters}
 use Rattle.promises.proofs.Grow.{run_grow, run_longer}
@@ -40,22 +42,22 @@ run_ends p budget ev s m = let h = steps_between p budget 0 ev s m in omega arit
 -- ---- refusals
 
 -- a refusal counts no steps and leaves the state and the memory as given
-pub run_refused : (p : Profile) (s : State) (m ev : List ℕ) (budget : ℕ) → accepts_of (run_refusal p s m ev budget) ≡ false
-    → (run_outcome p s m ev budget ≡ refused_with s (run_refusal p s m ev budget)) × (run_memory p s m ev budget ≡ m)
+pub run_refused : (p : Profile) (s : State) (m ev : List ℕ) (budget : ℕ) (r : Refusal) → check_run p s m ev budget ≡ Err r
+    → (run_outcome p s m ev budget ≡ Err r) × ((steps_of (run_outcome p s m ev budget) ≡ 0) × ((state_left s (run_outcome p s m ev budget) ≡ s) × (run_memory p s m ev budget ≡ m)))
 unfolding run_outcome run_memory
-run_refused p s m ev budget h = rw h (refl, refl)
+run_refused p s m ev budget r h = rw h (refl, (refl, (refl, refl)))
 
-pub step_refused : (p : Profile) (s : State) (m : List ℕ) (e : ℕ) → accepts_of (step_refusal p s m e) ≡ false
-    → (step_outcome p s m e ≡ refused_with s (step_refusal p s m e)) × (step_memory p s m e ≡ m)
+pub step_refused : (p : Profile) (s : State) (m : List ℕ) (e : ℕ) (r : Refusal) → check_step p s m e ≡ Err r
+    → (step_outcome p s m e ≡ Err r) × ((steps_of (step_outcome p s m e) ≡ 0) × ((state_left s (step_outcome p s m e) ≡ s) × (step_memory p s m e ≡ m)))
 unfolding step_outcome step_memory
-step_refused p s m e h = rw h (refl, refl)
+step_refused p s m e r h = rw h (refl, (refl, (refl, refl)))
 
-pub run_accepted_is : (p : Profile) (s : State) (m ev : List ℕ) (budget : ℕ) → accepts_of (run_refusal p s m ev budget) ≡ true
-    → (run_outcome p s m ev budget ≡ accepted (run_of p budget 0 ev s m)) × (run_memory p s m ev budget ≡ (run_of p budget 0 ev s m).mem)
+pub run_accepted_is : (p : Profile) (s : State) (m ev : List ℕ) (budget : ℕ) → check_run p s m ev budget ≡ Ok tt
+    → (run_outcome p s m ev budget ≡ Ok (accepted (run_of p budget 0 ev s m))) × (run_memory p s m ev budget ≡ (run_of p budget 0 ev s m).mem)
 unfolding run_outcome run_memory
 run_accepted_is p s m ev budget h = rw h (refl, refl)
 
-accepts_cases : (a b c d f : Bool) → accepts_of (or_else (or_else (unless a Refusal.Memory) (pick b (pick c Refusal.None Refusal.Reserved) Refusal.Iar)) (or_else (unless d Refusal.Budget) (unless f Refusal.Events)))
+accepts_cases : (a b c d f : Bool) → is_ok (result_and (result_and (unless a Refusal.Memory) (result_and (unless b Refusal.Iar) (unless c Refusal.Reserved))) (result_and (unless d Refusal.Budget) (unless f Refusal.Events)))
     ≡ (a && b && c && d && f)
 accepts_cases true true true true true = refl
 accepts_cases true true true true false = refl
@@ -66,9 +68,9 @@ accepts_cases false b c d f = refl
 
 -- a run is accepted exactly when none of 1, 2, 3, 4 and 5 speaks against it
 pub accepted_exactly : (p : Profile) (s : State) (m ev : List ℕ) (budget : ℕ)
-    → accepts_of (run_refusal p s m ev budget)
+    → is_ok (check_run p s m ev budget)
     ≡ (sized_of (length m) && eqb (s.iar % 4) 0 && sound_of p s && leb budget 1048576 && (leb (length ev) 1048576 && events_good ev))
-unfolding run_refusal start_refusal events_refusal refusal_of
+unfolding check_run check_start check_events check_of
 accepted_exactly p s m ev budget =
     accepts_cases (sized_of (length m)) (eqb (s.iar % 4) 0) (sound_of p s) (leb budget 1048576) (leb (length ev) 1048576 && events_good ev)
 
@@ -103,7 +105,7 @@ as_many p s m x ev budget g =
 
 -- demand 3, of a first run that did not reach past its memory
 pub never_alters : (p : Profile) (s : State) (m x ev : List ℕ) (budget more : ℕ)
-    → accepts_of (run_refusal p s m ev budget) ≡ true → accepts_of (run_refusal p s (m ++ x) ev (budget + more)) ≡ true
+    → check_run p s m ev budget ≡ Ok tt → check_run p s (m ++ x) ev (budget + more) ≡ Ok tt
     → past_of p budget 0 ev s m ≡ false → NeverAlters p s m x ev budget more
 never_alters p s m x ev budget more first second past =
     let r = run_of p budget 0 ev s m in

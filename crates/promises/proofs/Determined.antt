@@ -1,4 +1,5 @@
 -- Answers are determined: any two results that meet the contract of a public operation are equal, what was lent included. Assumes nothing.
+use Rattle.std.specs.Prelude.{Option}
 use Prim.Native.Nat.{ℕ}
 use mathlib.Core.Path.{◌≡◌, sym, ap, ◌∙◌}
 use mathlib.Core.List.{List}
@@ -7,32 +8,26 @@ use Rattle.insn.specs.Read.{decode_on}
 use Rattle.insn.specs.Write.{written_on}
 use Rattle.insn.specs.declared.profile.Profile.{Profile}
 use Rattle.insn.specs.declared.instr.Instr.{Instr}
-use Rattle.insn.specs.declared.instr.Decoded.{Decoded}
-use Rattle.insn.specs.declared.instr.Written.{Written}
-use Rattle.asm.specs.Answer.{Answer as LineAnswer}
-use Rattle.asm.specs.Listing.{listed_of, listed_out}
-use Rattle.asm.specs.declared.assemble.Assembled.{Assembled}
-use Rattle.asm.specs.declared.disassemble.Listed.{Listed}
+use Rattle.asm.specs.Answer.{Assembled, Answer as LineAnswer}
+use Rattle.asm.specs.Listing.{Listed, listed_of, listed_out}
 use Rattle.asm.proofs.Answers.{answer_once}
+use Rattle.std.specs.Prelude.{Result}
 use Rattle.machine.specs.declared.state.State.{State}
+use Rattle.machine.specs.declared.refusal.Refusal.{Refusal}
 use Rattle.tell.specs.Told.{told_of}
 use Rattle.tell.specs.Uses.{use_of}
 use Rattle.tell.specs.declared.told.Told.{Told}
 use Rattle.tell.specs.declared.uses.Use.{Use}
-use Rattle.run.specs.Outcome.{run_outcome, run_memory, run_past, inside_outcome, inside_memory, step_outcome, step_memory}
+use Rattle.run.specs.Outcome.{state_left, told, run_outcome, run_memory, run_past, inside_outcome, inside_memory, step_outcome, step_memory}
 use Rattle.run.specs.Lent.{answer_of}
 use Rattle.run.specs.declared.outcome.Outcome.{Outcome}
-use Rattle.run.specs.declared.lent.Answer.{Answer}
+use Rattle.run.specs.declared.outcome.Stop.{Stop}
 use Rattle.run.specs.declared.reach.Reached.{Reached}
 use Rattle.until.specs.Until.{until_outcome, until_memory}
 use Rattle.capture.specs.Read.{read_of, part_of}
 use Rattle.capture.specs.Write.{written_of as capture_written, out_of}
-use Rattle.capture.specs.declared.read.Read.{Read}
-use Rattle.capture.specs.declared.write.Written.{Written as CaptureWritten}
-use Rattle.srecord.specs.File.{read_of as srecord_read, memory_of as srecord_memory}
+use Rattle.srecord.specs.File.{Verdict, read_of as srecord_read, memory_of as srecord_memory}
 use Rattle.srecord.specs.Write.{written_of as srecord_written, out_of as srecord_out}
-use Rattle.srecord.specs.declared.check.Verdict.{Verdict}
-use Rattle.srecord.specs.declared.write.Written.{Written as SrecordWritten}
 use Rattle.abi.specs.Captures.{check_answer, write_answer, write_out}
 use Rattle.abi.specs.Records.{srec_read_answer, srec_write_answer}
 use Rattle.abi_run.specs.Runs.{run_answer, run_state, run_lent, reach_answer, inside_answer, inside_state, inside_lent, step_answer, step_state, step_lent}
@@ -52,52 +47,52 @@ two a b = (one a.0 b.0, one a.1 b.1)
 three : {A B C : Type 0} {x y z : A} {u v w : B} {l m n : C} → (x ≡ z) × ((u ≡ w) × (l ≡ n)) → (y ≡ z) × ((v ≡ w) × (m ≡ n)) → (x ≡ y) × ((u ≡ v) × (l ≡ m))
 three a b = (one a.0 b.0, two a.1 b.1)
 
-pub read_determined : (p : Profile) (w : ℕ) (r q : Decoded) → r ≡ decode_on p w → q ≡ decode_on p w → r ≡ q
+pub read_determined : (p : Profile) (w : ℕ) (r q : Option Instr) → r ≡ decode_on p w → q ≡ decode_on p w → r ≡ q
 read_determined p w r q = one
 
-pub write_determined : (p : Profile) (i : Instr) (r q : Written) → r ≡ written_on p i → q ≡ written_on p i → r ≡ q
+pub write_determined : (p : Profile) (i : Instr) (r q : Option ℕ) → r ≡ written_on p i → q ≡ written_on p i → r ≡ q
 write_determined p i r q = one
 
 module _ (p : Profile) (s : State) (m : List ℕ) where
-  pub run_determined : (ev : List ℕ) (budget : ℕ) (r q : Outcome) (m' n' : List ℕ)
+  pub run_determined : (ev : List ℕ) (budget : ℕ) (r q : Result Outcome Refusal) (m' n' : List ℕ)
       → (r ≡ run_outcome p s m ev budget) × (m' ≡ run_memory p s m ev budget) → (q ≡ run_outcome p s m ev budget) × (n' ≡ run_memory p s m ev budget) → (r ≡ q) × (m' ≡ n')
   run_determined ev budget r q m' n' = two
 
-  pub reach_determined : (ev : List ℕ) (budget : ℕ) (r q : Reached) (m' n' : List ℕ)
-      → (r ≡ record { outcome = run_outcome p s m ev budget; past = run_past p s m ev budget }) × (m' ≡ run_memory p s m ev budget)
-      → (q ≡ record { outcome = run_outcome p s m ev budget; past = run_past p s m ev budget }) × (n' ≡ run_memory p s m ev budget) → (r ≡ q) × (m' ≡ n')
+  pub reach_determined : (ev : List ℕ) (budget : ℕ) (r q : Result Reached Refusal) (m' n' : List ℕ)
+      → (r ≡ told (run_outcome p s m ev budget) (run_past p s m ev budget)) × (m' ≡ run_memory p s m ev budget)
+      → (q ≡ told (run_outcome p s m ev budget) (run_past p s m ev budget)) × (n' ≡ run_memory p s m ev budget) → (r ≡ q) × (m' ≡ n')
   reach_determined ev budget r q m' n' = two
 
-  pub inside_determined : (ev : List ℕ) (budget : ℕ) (r q : Reached) (m' n' : List ℕ)
-      → (r ≡ record { outcome = inside_outcome p s m ev budget; past = run_past p s m ev budget }) × (m' ≡ inside_memory p s m ev budget)
-      → (q ≡ record { outcome = inside_outcome p s m ev budget; past = run_past p s m ev budget }) × (n' ≡ inside_memory p s m ev budget) → (r ≡ q) × (m' ≡ n')
+  pub inside_determined : (ev : List ℕ) (budget : ℕ) (r q : Result Reached Refusal) (m' n' : List ℕ)
+      → (r ≡ told (inside_outcome p s m ev budget) (run_past p s m ev budget)) × (m' ≡ inside_memory p s m ev budget)
+      → (q ≡ told (inside_outcome p s m ev budget) (run_past p s m ev budget)) × (n' ≡ inside_memory p s m ev budget) → (r ≡ q) × (m' ≡ n')
   inside_determined ev budget r q m' n' = two
 
-  pub until_determined : (ev stops : List ℕ) (budget : ℕ) (r q : Outcome) (m' n' : List ℕ)
+  pub until_determined : (ev stops : List ℕ) (budget : ℕ) (r q : Result Outcome Refusal) (m' n' : List ℕ)
       → (r ≡ until_outcome p s m ev stops budget) × (m' ≡ until_memory p s m ev stops budget) → (q ≡ until_outcome p s m ev stops budget) × (n' ≡ until_memory p s m ev stops budget)
       → (r ≡ q) × (m' ≡ n')
   until_determined ev stops budget r q m' n' = two
 
-  pub step_determined : (e : ℕ) (r q : Outcome) (m' n' : List ℕ)
+  pub step_determined : (e : ℕ) (r q : Result Outcome Refusal) (m' n' : List ℕ)
       → (r ≡ step_outcome p s m e) × (m' ≡ step_memory p s m e) → (q ≡ step_outcome p s m e) × (n' ≡ step_memory p s m e) → (r ≡ q) × (m' ≡ n')
   step_determined e r q m' n' = two
 
-  pub lent_determined : (e : ℕ) (r q : Answer) (s' t' : State) (m' n' : List ℕ)
-      → (r ≡ answer_of (step_outcome p s m e)) × ((s' ≡ (step_outcome p s m e).state) × (m' ≡ step_memory p s m e)) → (q ≡ answer_of (step_outcome p s m e)) × ((t' ≡ (step_outcome p s m e).state) × (n' ≡ step_memory p s m e))
+  pub lent_determined : (e : ℕ) (r q : Result Stop Refusal) (s' t' : State) (m' n' : List ℕ)
+      → (r ≡ answer_of (step_outcome p s m e)) × ((s' ≡ state_left s (step_outcome p s m e)) × (m' ≡ step_memory p s m e)) → (q ≡ answer_of (step_outcome p s m e)) × ((t' ≡ state_left s (step_outcome p s m e)) × (n' ≡ step_memory p s m e))
       → (r ≡ q) × ((s' ≡ t') × (m' ≡ n'))
   lent_determined e r q s' t' m' n' = three
 
   pub told_determined : (e : ℕ) (r q : Told) → r ≡ told_of p s m e → q ≡ told_of p s m e → r ≡ q
   told_determined e r q = one
 
-  pub use_determined : (e : ℕ) (r q : Use) → r ≡ use_of p s m e → q ≡ use_of p s m e → r ≡ q
+  pub use_determined : (e : ℕ) (r q : Option Use) → r ≡ use_of p s m e → q ≡ use_of p s m e → r ≡ q
   use_determined e r q = one
 
-  pub capture_write_determined : (out : List ℕ) (r q : CaptureWritten) (o' u' : List ℕ)
+  pub capture_write_determined : (out : List ℕ) (r q : Result ℕ Refusal) (o' u' : List ℕ)
       → (r ≡ capture_written p s m out) × (o' ≡ out_of p s m out) → (q ≡ capture_written p s m out) × (u' ≡ out_of p s m out) → (r ≡ q) × (o' ≡ u')
   capture_write_determined out r q o' u' = two
 
-pub capture_state_determined : (p : Profile) (f : List ℕ) (r q : Read) → r ≡ read_of p f → q ≡ read_of p f → r ≡ q
+pub capture_state_determined : (p : Profile) (f : List ℕ) (r q : Result State Refusal) → r ≡ read_of p f → q ≡ read_of p f → r ≡ q
 capture_state_determined p f r q = one
 
 pub capture_part_determined : (p : Profile) (f r q : List ℕ) → r ≡ part_of p f → q ≡ part_of p f → r ≡ q
@@ -107,7 +102,7 @@ pub srecord_read_determined : (m f : List ℕ) (r q : Verdict) (m' n' : List ℕ
     → (r ≡ srecord_read (length m) f) × (m' ≡ srecord_memory m f) → (q ≡ srecord_read (length m) f) × (n' ≡ srecord_memory m f) → (r ≡ q) × (m' ≡ n')
 srecord_read_determined m f r q m' n' = two
 
-pub srecord_write_determined : (m out : List ℕ) (r q : SrecordWritten) (o' u' : List ℕ)
+pub srecord_write_determined : (m out : List ℕ) (r q : Result ℕ Refusal) (o' u' : List ℕ)
     → (r ≡ srecord_written m out) × (o' ≡ srecord_out m out) → (q ≡ srecord_written m out) × (u' ≡ srecord_out m out) → (r ≡ q) × (o' ≡ u')
 srecord_write_determined m out r q o' u' = two
 

@@ -1,5 +1,7 @@
 -- Demand 1: an instruction that faults changes no memory, and no register but those its interrupt sets; of lsku and stsku what was done before the fault
 -- stays besides. Assumes nothing.
+use Rattle.std.specs.Prelude.{Some, None, Option, Ok, Err, Result}
+use Rattle.std.specs.Result.{result_and}
 use Prim.Native.Nat.{ℕ, ◌+◌, ◌-◌, ◌%◌, ◌^◌, ◌<◌, ◌≤◌}
 use native.Mathlib.Omega.{arith}
 use mathlib.Core.Bool.{Bool, true, false, ◌&&◌, ◌||◌}
@@ -11,14 +13,12 @@ use lib.ListN.{length}
 use borrow.Author.Tests.{eq-eqb, eqb-false}
 use Rattle.word.specs.Bits.{bit_at}
 use Rattle.word.specs.Width.{bytes}
-use Rattle.memory.specs.Access.{pick, aligned_of, access_of}
-use Rattle.memory.specs.Load.{loaded, load_of, loaded_double, load_double_of, fetch_of}
+use Rattle.memory.specs.Access.{Access, pick, aligned_of, access_of}
+use Rattle.memory.specs.Load.{Loaded, loaded, load_of, load_double_of, fetch_of}
 use Rattle.memory.specs.Store.{block_at, bytes_of, double_bytes, written, stored_of, stored_double_of, cleared_of}
-use Rattle.memory.specs.declared.access.Access.{Access}
-use Rattle.memory.specs.declared.load.Loaded.{Loaded}
+use Rattle.memory.specs.declared.access.Fault.{Fault}
 use Rattle.insn.specs.Read.{decode_on}
 use Rattle.insn.specs.declared.instr.Instr.{Instr}
-use Rattle.insn.specs.declared.instr.Decoded.{Decoded}
 use Rattle.insn.specs.declared.instr.LoadStore.{LoadStore}
 use Rattle.insn.specs.declared.instr.StackOp.{StackOp}
 use Rattle.insn.specs.declared.instr.CacheOp.{CacheOp}
@@ -28,10 +28,10 @@ use Rattle.word.proofs.Truth.{never}
 use Rattle.insn.specs.Valid.{reg_of, paired_with}
 use Rattle.machine.specs.State.{gpr_of, vdr_of, with, with_gpr}
 use Rattle.machine.specs.After.{After, plain}
-use Rattle.machine.specs.Stack.{Part, pair, link, address_of, size_of, frame_ea, doublewords, parts_of, read_gpr, popped, state_after, memory_after, stores_of, goes_on, framed_of, stack_of, missed_at, missed_of, frame_missed}
+use Rattle.machine.specs.Stack.{Part, pair, link, address_of, size_of, frame_ea, doublewords, parts_of, read_gpr, popped, state_after, memory_after, stores_of, goes_on, framed_of, stack_of, served_at, parts_served, frame_served}
 use Rattle.machine.proofs.Frames.{part_length}
 use Rattle.machine.proofs.Registers.{gpr_elsewhere, places_differ, gpr_others}
-use Rattle.machine.specs.Interrupt.{entered_of, access_noted, program_noted, noted_of, promoted_of, halted_of, taken_for, interrupted_of, vector_for}
+use Rattle.machine.specs.Interrupt.{cause_of, entered_of, access_noted, program_noted, noted_of, promoted_of, halted_of, taken_for, interrupted_of, vector_for}
 use Rattle.machine.specs.LoadStore.{offset_ea, indexed_ea, loaded_state, stored_state, load_at, store_at, loaded_double_state, load_double_at, store_double_at, load_store_of}
 use Rattle.machine.specs.Cache.{cleared_state, clear_at, cache_of}
 use Rattle.machine.specs.System.{trap_of}
@@ -42,13 +42,11 @@ use Rattle.machine.specs.declared.interrupt.Cause.{Cause}
 use Rattle.machine.specs.declared.stack.Missed.{Missed}
 use Rattle.machine.specs.declared.interrupt.Vector.{Vector}
 use Rattle.machine.specs.declared.interrupt.Halt.{Halt}
-use Rattle.machine.specs.declared.step.Pending.{Pending}
 use Rattle.tell.specs.Fault.{access_raises, load_store_raises, missed_raises, stack_raises, cache_raises, execute_raises, decoded_raises, fetched_raises, raised_of}
-use Rattle.tell.specs.declared.fault.Raised.{Raised}
 use Rattle.promises.specs.Fault.{faulted, when_served, framed_before, stack_before, execute_before, decoded_before, fetched_before, running_before, is_stack, OnlyPairs, OnlyInterrupt}
 
 -- nothing raised is no fault
-quiet : {A : Type 0} {c : Cause} → Raised.Nothing ≡ Raised.Raises c → A
+quiet : {A : Type 0} {c : Cause} → None ≡ Some c → A
 quiet e = let z : ◌≡◌ {A = ℕ} 0 1 = cc in absurd (omega arith)
 
 -- lsku and stsku: the accesses before the one that faults are done, and the interrupt is that of the state which they left
@@ -56,56 +54,51 @@ module _ (p : Profile) (c : Cause) where
   abbrev FaultedAfter : After → After → Type 0
   FaultedAfter b a = faulted p b.st b.mem c a
 
-  part_faults : (s : State) (m : List ℕ) (store : Bool) (a : ℕ) (k : Access) (q : Missed) (before rest : After) → (missed_raises store q ≡ Raised.Raises c → FaultedAfter before rest)
-      → missed_raises store (missed_at k a q) ≡ Raised.Raises c → FaultedAfter (when_served k before (plain s m)) (goes_on p s m store a k rest)
-  part_faults s m store a Access.Served q before rest h e = h e
-  part_faults s m store a Access.Unaligned q before rest h e = let d : Cause.Alignment a store ≡ c = cc in (ap (interrupted_of p s) d, refl)
-  part_faults s m store a Access.Outside q before rest h e = let d : Cause.DataStorage a store ≡ c = cc in (ap (interrupted_of p s) d, refl)
+  part_faults : (s : State) (m : List ℕ) (store : Bool) (a : ℕ) (k : Access) (q : Result Unit Missed) (before rest : After) → (missed_raises store q ≡ Some c → FaultedAfter before rest)
+      → missed_raises store (result_and (served_at k a) q) ≡ Some c → FaultedAfter (when_served k before (plain s m)) (goes_on p s m store a k rest)
+  part_faults s m store a (Ok tt) q before rest h e = h e
+  part_faults s m store a (Err f) q before rest h e = let d : cause_of f a store ≡ c = cc in (ap (interrupted_of p s) d, refl)
 
-  framed_faults : (op : StackOp) (ra sp ea : ℕ) (xs : List Part) (s : State) (m : List ℕ) → missed_raises (stores_of op) (missed_of (length m) xs) ≡ Raised.Raises c
+  framed_faults : (op : StackOp) (ra sp ea : ℕ) (xs : List Part) (s : State) (m : List ℕ) → missed_raises (stores_of op) (parts_served (length m) xs) ≡ Some c
       → FaultedAfter (framed_before op ra xs s m) (framed_of p op ra sp ea xs s m)
-  unfolding missed_of framed_before framed_of
+  unfolding parts_served framed_before framed_of
   framed_faults op ra sp ea [] s m e = quiet e
   framed_faults op ra sp ea (x ∷ xs) s m e =
-      part_faults s m (stores_of op) (address_of x) (access_of (length m) (address_of x) (size_of x)) (missed_of (length m) xs) _ _
+      part_faults s m (stores_of op) (address_of x) (access_of (length m) (address_of x) (size_of x)) (parts_served (length m) xs) _ _
       (λ h. framed_faults op ra sp ea xs (state_after op ra x s m) (memory_after op ra x s m) (rw (part_length op ra x s m) h)) e
 
-  stack_faults : (s : State) (m : List ℕ) (op : StackOp) (ra dd : ℕ) → stack_raises s m op ra dd ≡ Raised.Raises c → FaultedAfter (stack_before s m op ra dd) (stack_of p s m op ra dd)
-  unfolding frame_missed stack_before stack_of
+  stack_faults : (s : State) (m : List ℕ) (op : StackOp) (ra dd : ℕ) → stack_raises s m op ra dd ≡ Some c → FaultedAfter (stack_before s m op ra dd) (stack_of p s m op ra dd)
+  unfolding frame_served stack_before stack_of
   stack_faults s m op ra dd e = go (aligned_of (gpr_of s ra) 8) e
     where
       parts : List Part
       parts = parts_of op (gpr_of s ra) (frame_ea s ra dd) (doublewords op dd)
 
-      go : (b : Bool) → missed_raises (stores_of op) (pick b (missed_of (length m) parts) (Missed.Unaligned (gpr_of s ra))) ≡ Raised.Raises c
+      go : (b : Bool) → missed_raises (stores_of op) (pick b (parts_served (length m) parts) (Err (record { fault = Fault.Unaligned; address = gpr_of s ra }))) ≡ Some c
           → FaultedAfter (pick b (framed_before op ra parts s m) (plain s m)) (pick b (framed_of p op ra (gpr_of s ra) (frame_ea s ra dd) parts s m) (plain (interrupted_of p s (Cause.Alignment (gpr_of s ra) (stores_of op))) m))
       go true h = framed_faults op ra (gpr_of s ra) (frame_ea s ra dd) parts s m h
       go false h = let d : Cause.Alignment (gpr_of s ra) (stores_of op) ≡ c = cc in (ap (interrupted_of p s) d, refl)
 
 module _ (p : Profile) (s : State) (m : List ℕ) (c : Cause) where
-  load_faults : (k : Access) (v rt : ℕ) (u : Bool) (ra ea : ℕ) → access_raises k ea false ≡ Raised.Raises c → loaded_state p s (loaded k v) rt u ra ea ≡ interrupted_of p s c
-  load_faults Access.Served v rt u ra ea e = quiet e
-  load_faults Access.Unaligned v rt u ra ea e = let d : Cause.Alignment ea false ≡ c = cc in ap (interrupted_of p s) d
-  load_faults Access.Outside v rt u ra ea e = let d : Cause.DataStorage ea false ≡ c = cc in ap (interrupted_of p s) d
+  load_faults : (k : Access) (v rt : ℕ) (u : Bool) (ra ea : ℕ) → access_raises k ea false ≡ Some c → loaded_state p s (loaded k v) rt u ra ea ≡ interrupted_of p s c
+  load_faults (Ok tt) v rt u ra ea e = quiet e
+  load_faults (Err f) v rt u ra ea e = let d : cause_of f ea false ≡ c = cc in ap (interrupted_of p s) d
 
-  load_double_faults : (k : Access) (v dt : ℕ) (u : Bool) (ra ea : ℕ) → access_raises k ea false ≡ Raised.Raises c → loaded_double_state p s (loaded_double k v) dt u ra ea ≡ interrupted_of p s c
-  load_double_faults Access.Served v dt u ra ea e = quiet e
-  load_double_faults Access.Unaligned v dt u ra ea e = let d : Cause.Alignment ea false ≡ c = cc in ap (interrupted_of p s) d
-  load_double_faults Access.Outside v dt u ra ea e = let d : Cause.DataStorage ea false ≡ c = cc in ap (interrupted_of p s) d
+  load_double_faults : (k : Access) (v dt : ℕ) (u : Bool) (ra ea : ℕ) → access_raises k ea false ≡ Some c → loaded_double_state p s (loaded k v) dt u ra ea ≡ interrupted_of p s c
+  load_double_faults (Ok tt) v dt u ra ea e = quiet e
+  load_double_faults (Err f) v dt u ra ea e = let d : cause_of f ea false ≡ c = cc in ap (interrupted_of p s) d
 
-  store_faults : (k : Access) (u : Bool) (ra ea a : ℕ) (bs : List ℕ) → access_raises k ea true ≡ Raised.Raises c
+  store_faults : (k : Access) (u : Bool) (ra ea a : ℕ) (bs : List ℕ) → access_raises k ea true ≡ Some c
       → (stored_state p s k u ra ea ≡ interrupted_of p s c) × (written k m a bs ≡ m)
-  store_faults Access.Served u ra ea a bs e = quiet e
-  store_faults Access.Unaligned u ra ea a bs e = let d : Cause.Alignment ea true ≡ c = cc in (ap (interrupted_of p s) d, refl)
-  store_faults Access.Outside u ra ea a bs e = let d : Cause.DataStorage ea true ≡ c = cc in (ap (interrupted_of p s) d, refl)
+  store_faults (Ok tt) u ra ea a bs e = quiet e
+  store_faults (Err f) u ra ea a bs e = let d : cause_of f ea true ≡ c = cc in (ap (interrupted_of p s) d, refl)
 
-  clear_faults : (k : Access) (ea a : ℕ) (bs : List ℕ) → access_raises k ea true ≡ Raised.Raises c
+  clear_faults : (k : Access) (ea a : ℕ) (bs : List ℕ) → access_raises k ea true ≡ Some c
       → (cleared_state p s k ea ≡ interrupted_of p s c) × (written k m a bs ≡ m)
-  clear_faults Access.Served ea a bs e = quiet e
-  clear_faults Access.Unaligned ea a bs e = let d : Cause.Alignment ea true ≡ c = cc in (ap (interrupted_of p s) d, refl)
-  clear_faults Access.Outside ea a bs e = let d : Cause.DataStorage ea true ≡ c = cc in (ap (interrupted_of p s) d, refl)
+  clear_faults (Ok tt) ea a bs e = quiet e
+  clear_faults (Err f) ea a bs e = let d : cause_of f ea true ≡ c = cc in (ap (interrupted_of p s) d, refl)
 
-  load_store_faults : (i : LoadStore) → load_store_raises s m i ≡ Raised.Raises c → faulted p s m c (load_store_of p s m i)
+  load_store_faults : (i : LoadStore) → load_store_raises s m i ≡ Some c → faulted p s m c (load_store_of p s m i)
   unfolding load_store_of load_at store_at load_double_at store_double_at load_of stored_of load_double_of stored_double_of
   load_store_faults (LoadStore.Load w u rt ra d) e =
       (load_faults (access_of (length m) (offset_ea s ra d) (bytes w)) _ rt u ra (offset_ea s ra d) e, refl)
@@ -120,20 +113,20 @@ module _ (p : Profile) (s : State) (m : List ℕ) (c : Cause) where
   load_store_faults (LoadStore.StoreDouble u ds ra d) e =
       store_faults (access_of (length m) (offset_ea s ra d) 8) u ra (offset_ea s ra d) (offset_ea s ra d) (double_bytes (vdr_of s ds)) e
 
-  cache_faults : (op : CacheOp) (ra rb : ℕ) → cache_raises s m op ra rb ≡ Raised.Raises c → faulted p s m c (cache_of p s m op ra rb)
+  cache_faults : (op : CacheOp) (ra rb : ℕ) → cache_raises s m op ra rb ≡ Some c → faulted p s m c (cache_of p s m op ra rb)
   unfolding cache_of clear_at cleared_of
   cache_faults CacheOp.Dcbf ra rb e = quiet e
   cache_faults CacheOp.Dcbi ra rb e = quiet e
   cache_faults CacheOp.Dcbt ra rb e = quiet e
   cache_faults CacheOp.Dcbz ra rb e = clear_faults (access_of (length m) (block_at (indexed_ea s ra rb)) 32) (indexed_ea s ra rb) (block_at (indexed_ea s ra rb)) _ e
 
-  trap_cases : (w : ℕ) (a b : Bool) (t u : State) → pick a Raised.Nothing (pick b Raised.Nothing (Raised.Raises (Cause.Program w true))) ≡ Raised.Raises c
+  trap_cases : (w : ℕ) (a b : Bool) (t u : State) → pick a None (pick b None (Some (Cause.Program w true))) ≡ Some c
       → pick a t (pick b u (interrupted_of p s (Cause.Program w true))) ≡ interrupted_of p s c
   trap_cases w true b t u e = quiet e
   trap_cases w false true t u e = quiet e
   trap_cases w false false t u e = let d : Cause.Program w true ≡ c = cc in ap (interrupted_of p s) d
 
-  execute_faults : (w : ℕ) (i : Instr) → execute_raises p s m w i ≡ Raised.Raises c → FaultedAfter p c (execute_before s m i) (execute_of p s m w i)
+  execute_faults : (w : ℕ) (i : Instr) → execute_raises p s m w i ≡ Some c → FaultedAfter p c (execute_before s m i) (execute_of p s m w i)
   unfolding execute_of trap_of
   execute_faults w (Instr.Arithmetic i) e = quiet e
   execute_faults w (Instr.Logical i) e = quiet e
@@ -146,24 +139,23 @@ module _ (p : Profile) (s : State) (m : List ℕ) (c : Cause) where
   execute_faults w (Instr.System i) e = quiet e
   execute_faults w (Instr.Cache op hint ra rb) e = cache_faults op ra rb e
 
-  decoded_faults : (w : ℕ) (d : Decoded) → decoded_raises p s m w d ≡ Raised.Raises c → FaultedAfter p c (decoded_before s m d) (decoded_of p s m w d)
-  decoded_faults w (Decoded.Insn i) e = execute_faults w i e
-  decoded_faults w Decoded.Illegal e = let d : Cause.Program w false ≡ c = cc in (ap (interrupted_of p s) d, refl)
+  decoded_faults : (w : ℕ) (d : Option Instr) → decoded_raises p s m w d ≡ Some c → FaultedAfter p c (decoded_before s m d) (decoded_of p s m w d)
+  decoded_faults w (Some i) e = execute_faults w i e
+  decoded_faults w None e = let d : Cause.Program w false ≡ c = cc in (ap (interrupted_of p s) d, refl)
 
-  fetched_faults : (l : Loaded) → fetched_raises p s m l ≡ Raised.Raises c → FaultedAfter p c (fetched_before p s m l) (fetched_of p s m l)
-  fetched_faults (Loaded.Value w) e = decoded_faults w (decode_on p w) e
-  fetched_faults Loaded.Unaligned e = let d : Cause.InstructionStorage ≡ c = cc in (ap (interrupted_of p s) d, refl)
-  fetched_faults Loaded.Outside e = let d : Cause.InstructionStorage ≡ c = cc in (ap (interrupted_of p s) d, refl)
+  fetched_faults : (l : Loaded) → fetched_raises p s m l ≡ Some c → FaultedAfter p c (fetched_before p s m l) (fetched_of p s m l)
+  fetched_faults (Ok w) e = decoded_faults w (decode_on p w) e
+  fetched_faults (Err f) e = let d : Cause.InstructionStorage ≡ c = cc in (ap (interrupted_of p s) d, refl)
 
   -- line 6: what a fault leaves
-  pub running_faults : raised_of p s m ≡ Raised.Raises c → (let b = running_before p s m in faulted p b.st b.mem c (running_of p s m))
+  pub running_faults : raised_of p s m ≡ Some c → (let b = running_before p s m in faulted p b.st b.mem c (running_of p s m))
   unfolding raised_of running_of running_before
   running_faults e = fetched_faults (fetch_of m s.iar) e
 
 -- a whole step that gets to line 6 and faults there: of the state that line 2 left, and what lsku or stsku did before the fault, only what the interrupt sets
 -- is changed
-pub step_faults : (p : Profile) (s : State) (m : List ℕ) (e : ℕ) (c : Cause) → s.halt ≡ 0 → acts_of s e ≡ false → highest_of (ticked_of s e) e ≡ Pending.Nothing
-    → bit_at (ticked_of s e).msr 13 ≡ false → raised_of p (ticked_of s e) m ≡ Raised.Raises c → (let b = running_before p (ticked_of s e) m in faulted p b.st b.mem c (step_of p s m e))
+pub step_faults : (p : Profile) (s : State) (m : List ℕ) (e : ℕ) (c : Cause) → s.halt ≡ 0 → acts_of s e ≡ false → highest_of (ticked_of s e) e ≡ None
+    → bit_at (ticked_of s e).msr 13 ≡ false → raised_of p (ticked_of s e) m ≡ Some c → (let b = running_before p (ticked_of s e) m in faulted p b.st b.mem c (step_of p s m e))
 unfolding step_of counted_of awake_of
 step_faults p s m e c h a q w r = rw (eq-eqb s.halt 0 h, a, q, w) (running_faults p (ticked_of s e) m c r)
 
@@ -180,7 +172,7 @@ before_alone s m (Instr.Trap to ra rb tg) h = refl
 before_alone s m (Instr.System i) h = refl
 before_alone s m (Instr.Cache op hint ra rb) h = refl
 
-pub faults_alone : (p : Profile) (s : State) (m : List ℕ) (w : ℕ) (i : Instr) → fetch_of m s.iar ≡ Loaded.Value w → decode_on p w ≡ Decoded.Insn i → is_stack i ≡ false → running_before p s m ≡ plain s m
+pub faults_alone : (p : Profile) (s : State) (m : List ℕ) (w : ℕ) (i : Instr) → fetch_of m s.iar ≡ Ok w → decode_on p w ≡ Some i → is_stack i ≡ false → running_before p s m ≡ plain s m
 unfolding running_before
 faults_alone p s m w i f d h = rw (f, d) (before_alone s m i h)
 
@@ -210,26 +202,24 @@ High n = ((reg_of n ≡ true) × (28 ≤ n)) × ((reg_of (paired_with n) ≡ tru
 module _ (ra : ℕ) (m : List ℕ) (c : Cause) where
   -- some accesses of lsku, where one of them faults
   abbrev Leaves : List Part → Type 0
-  Leaves xs = (s : State) → missed_raises false (missed_of (length m) xs) ≡ Raised.Raises c → OnlyPairs ra s (framed_before StackOp.Lsku ra xs s m).st
+  Leaves xs = (s : State) → missed_raises false (parts_served (length m) xs) ≡ Some c → OnlyPairs ra s (framed_before StackOp.Lsku ra xs s m).st
 
   link_before : (a : ℕ) → Leaves (link a ∷ [])
-  unfolding missed_of framed_before
+  unfolding parts_served framed_before
   link_before a s e = go (access_of (length m) a 4) e
     where
-      go : (k : Access) → missed_raises false (missed_at k a Missed.Nothing) ≡ Raised.Raises c → OnlyPairs ra s (when_served k (framed_before StackOp.Lsku ra [] (popped ra (link a) m s) m) (plain s m)).st
-      go Access.Served h = quiet h
-      go Access.Unaligned h = only_same ra s
-      go Access.Outside h = only_same ra s
+      go : (k : Access) → missed_raises false (result_and (served_at k a) (Ok tt)) ≡ Some c → OnlyPairs ra s (when_served k (framed_before StackOp.Lsku ra [] (popped ra (link a) m s) m) (plain s m)).st
+      go (Ok tt) h = quiet h
+      go (Err f) h = only_same ra s
 
   pair_before : (n a : ℕ) (xs : List Part) → High n → Leaves xs → Leaves (pair n a ∷ xs)
-  unfolding missed_of framed_before
+  unfolding parts_served framed_before
   pair_before n a xs d rest s e = go (access_of (length m) a 8) e
     where
-      go : (k : Access) → missed_raises false (missed_at k a (missed_of (length m) xs)) ≡ Raised.Raises c → OnlyPairs ra s (when_served k (framed_before StackOp.Lsku ra xs (popped ra (pair n a) m s) m) (plain s m)).st
-      go Access.Served h =
+      go : (k : Access) → missed_raises false (result_and (served_at k a) (parts_served (length m) xs)) ≡ Some c → OnlyPairs ra s (when_served k (framed_before StackOp.Lsku ra xs (popped ra (pair n a) m s) m) (plain s m)).st
+      go (Ok tt) h =
           only_then (only_then (read_only s ra n _ d.0.0 d.0.1) (read_only _ ra (paired_with n) _ d.1.0 d.1.1)) (rest (popped ra (pair n a) m s) h)
-      go Access.Unaligned h = only_same ra s
-      go Access.Outside h = only_same ra s
+      go (Err f) h = only_same ra s
 
   pop_before : (sp ea n : ℕ) → Leaves (parts_of StackOp.Lsku sp ea n)
   unfolding reg_of
@@ -253,19 +243,18 @@ before_memory ra [] s m = refl
 before_memory ra (x ∷ xs) s m = go (access_of (length m) (address_of x) (size_of x)) (before_memory ra xs (popped ra x m s) m)
   where
     go : (k : Access) → (framed_before StackOp.Lsku ra xs (popped ra x m s) m).mem ≡ m → (when_served k (framed_before StackOp.Lsku ra xs (popped ra x m s) m) (plain s m)).mem ≡ m
-    go Access.Served h = h
-    go Access.Unaligned h = refl
-    go Access.Outside h = refl
+    go (Ok tt) h = h
+    go (Err f) h = refl
 
-pub lsku_before : (s : State) (m : List ℕ) (ra dd : ℕ) (c : Cause) → stack_raises s m StackOp.Lsku ra dd ≡ Raised.Raises c
+pub lsku_before : (s : State) (m : List ℕ) (ra dd : ℕ) (c : Cause) → stack_raises s m StackOp.Lsku ra dd ≡ Some c
     → (let b = stack_before s m StackOp.Lsku ra dd in (b.mem ≡ m) × OnlyPairs ra s b.st)
-unfolding frame_missed stack_before
+unfolding frame_served stack_before
 lsku_before s m ra dd c e = go (aligned_of (gpr_of s ra) 8) e
   where
     parts : List Part
     parts = parts_of StackOp.Lsku (gpr_of s ra) (frame_ea s ra dd) (doublewords StackOp.Lsku dd)
 
-    go : (b : Bool) → missed_raises false (pick b (missed_of (length m) parts) (Missed.Unaligned (gpr_of s ra))) ≡ Raised.Raises c
+    go : (b : Bool) → missed_raises false (pick b (parts_served (length m) parts) (Err (record { fault = Fault.Unaligned; address = gpr_of s ra }))) ≡ Some c
         → (let a = pick b (framed_before StackOp.Lsku ra parts s m) (plain s m) in (a.mem ≡ m) × OnlyPairs ra s a.st)
     go true h = (before_memory ra parts s m, pop_before ra m c (gpr_of s ra) (frame_ea s ra dd) (doublewords StackOp.Lsku dd) s h)
     go false h = (refl, only_same ra s)
@@ -277,9 +266,8 @@ before_state ra [] s m = refl
 before_state ra (x ∷ xs) s m = go (access_of (length m) (address_of x) (size_of x)) (before_state ra xs s (memory_after StackOp.Stsku ra x s m))
   where
     go : (k : Access) → (framed_before StackOp.Stsku ra xs s (memory_after StackOp.Stsku ra x s m)).st ≡ s → (when_served k (framed_before StackOp.Stsku ra xs s (memory_after StackOp.Stsku ra x s m)) (plain s m)).st ≡ s
-    go Access.Served h = h
-    go Access.Unaligned h = refl
-    go Access.Outside h = refl
+    go (Ok tt) h = h
+    go (Err f) h = refl
 
 pub stsku_before : (s : State) (m : List ℕ) (ra dd : ℕ) → (stack_before s m StackOp.Stsku ra dd).st ≡ s
 unfolding stack_before

@@ -11,9 +11,8 @@ use Rattle.syntax.specs.Text.{bytes}
 use Rattle.machine.specs.declared.refusal.Refusal.{Refusal}
 use Rattle.srecord.specs.Hex.{letter_of, digit_of, joined, pair_at, bytes_at, all_bytes, sum_of, number_from}
 use Rattle.srecord.specs.Record.{lines_of, width_of, ends_at, room_for, headed_at, formed_at, held_at, record_at}
-use Rattle.srecord.specs.File.{places, is_in, any_in, data_refusal, end_refusal, count_refusal, record_refusal, line_refusal, after, after_line, refused_at, good, verdict, put, placed, read_of, memory_of}
+use Rattle.srecord.specs.File.{places, is_in, any_in, check_data, check_end, check_count, check_record, check_line, after, after_line, Verdict, refused_at, good, verdict, put, placed, read_of, memory_of}
 use Rattle.srecord.specs.Write.{hex_digit, hexes, check_of, text_of, block_text, end_text, blocks, file_of}
-use Rattle.srecord.specs.declared.check.Verdict.{Verdict}
 
 -- a line, ended either way
 abbrev lf : String → List ℕ
@@ -77,12 +76,12 @@ files =
     ∷ []
 
 pub files_hold : map computed files ≡ map printed files
-unfolding bytes letter_of digit_of joined pair_at bytes_at all_bytes sum_of number_from lines_of width_of ends_at room_for headed_at formed_at held_at record_at places is_in any_in data_refusal end_refusal count_refusal record_refusal line_refusal after after_line verdict sized_of read_of
+unfolding bytes letter_of digit_of joined pair_at bytes_at all_bytes sum_of number_from lines_of width_of ends_at room_for headed_at formed_at held_at record_at places is_in any_in check_data check_end check_count check_record check_line after after_line verdict sized_of read_of
 files_hold = refl
 
 -- three bytes at address 4, and the others as they were
 pub file_stored : memory_of (replicate 32 0xEE) (lf "S10600040102AB47" ++ lf "S9030000FC") ≡ replicate 4 0xEE ++ (1 ∷ 2 ∷ 0xAB ∷ []) ++ replicate 25 0xEE
-unfolding bytes letter_of digit_of joined pair_at bytes_at all_bytes sum_of number_from lines_of width_of ends_at room_for headed_at formed_at held_at record_at places is_in any_in data_refusal end_refusal count_refusal record_refusal line_refusal after after_line verdict put placed sized_of read_of memory_of
+unfolding bytes letter_of digit_of joined pair_at bytes_at all_bytes sum_of number_from lines_of width_of ends_at room_for headed_at formed_at held_at record_at places is_in any_in check_data check_end check_count check_record check_line after after_line verdict put placed sized_of read_of memory_of
 file_stored = refl
 
 -- 32 bytes of memory, the first a branch to itself, as a file

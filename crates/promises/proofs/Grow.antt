@@ -1,4 +1,5 @@
 -- Demand 3: more memory or a longer run never alters what was already found. Assumes nothing.
+use Rattle.std.specs.Prelude.{Some, None, Option, Ok, Err}
 use Prim.Native.Nat.{ℕ, zero, suc, ◌+◌}
 use native.Mathlib.Nat.{suc-add, zero-add}
 use mathlib.Core.Bool.{Bool, true, false}
@@ -10,18 +11,15 @@ use borrow.Author.Tests.{eqb-false}
 use Rattle.word.specs.Bits.{bit_at}
 use Rattle.word.specs.Width.{bytes}
 use Rattle.word.specs.declared.width.Width.{Width}
-use Rattle.memory.specs.Access.{pick, aligned_of, access_of, fetch_access_of, reaches_past}
-use Rattle.memory.specs.Load.{loaded, load_of, load_double_of, fetch_of, value_at, double_at}
+use Rattle.memory.specs.Access.{Access, pick, aligned_of, access_of, fetch_access_of, reaches_past}
+use Rattle.memory.specs.Load.{Loaded, loaded, load_of, load_double_of, fetch_of, value_at, double_at}
 use Rattle.memory.specs.Store.{block_at}
-use Rattle.memory.specs.declared.access.Access.{Access}
-use Rattle.memory.specs.declared.load.Loaded.{Loaded}
-use Rattle.memory.specs.declared.load.LoadedDouble.{LoadedDouble}
+use Rattle.memory.specs.declared.access.Fault.{Fault}
 use Rattle.word.proofs.Truth.{never}
 use Rattle.memory.proofs.Grow.{access_grow, load_grow, load_double_grow, fetch_grow, store_grow, store_double_grow, clear_grow, sets_grow}
 use Rattle.memory.proofs.Laws.{served_inside}
 use Rattle.insn.specs.Read.{decode_on}
 use Rattle.insn.specs.declared.instr.Instr.{Instr}
-use Rattle.insn.specs.declared.instr.Decoded.{Decoded}
 use Rattle.insn.specs.declared.instr.LoadStore.{LoadStore}
 use Rattle.insn.specs.declared.instr.StackOp.{StackOp}
 use Rattle.insn.specs.declared.instr.CacheOp.{CacheOp}
@@ -36,39 +34,36 @@ use Rattle.machine.specs.Timer.{ticked_of, acts_of, acted_of}
 use Rattle.machine.specs.Step.{execute_of, decoded_of, fetched_of, running_of, awake_of, highest_of, interruptible_of, counted_of, step_of}
 use Rattle.machine.specs.declared.state.State.{State}
 use Rattle.machine.specs.declared.interrupt.Cause.{Cause}
-use Rattle.machine.specs.declared.step.Pending.{Pending}
+use Rattle.machine.specs.declared.interrupt.Vector.{Vector}
 use Rattle.run.specs.Run.{Ran, run_of, past_of}
 use Rattle.run.proofs.Laws.{run_halted}
 use Rattle.promises.specs.Growth.{grown, grown_run}
-use Rattle.promises.proofs.Frames.{pushed_length}
+use Rattle.machine.proofs.Frames.{pushed_length}
 
 -- one access of a frame that is served in the smaller memory
 module _ (m x : List ℕ) (a : ℕ) where
-  same_value : {v w : ℕ} → Loaded.Value v ≡ Loaded.Value w → v ≡ w
+  same_value : {v w : ℕ} → ◌≡◌ {A = Loaded} (Ok v) (Ok w) → v ≡ w
   same_value e = cc
 
-  same_double : {v w : ℕ} → LoadedDouble.Value v ≡ LoadedDouble.Value w → v ≡ w
-  same_double e = cc
-
-  served_past : (n : ℕ) → access_of (length m) a n ≡ Access.Served → reaches_past (access_of (length m) a n) ≡ false
+  served_past : (n : ℕ) → access_of (length m) a n ≡ Ok tt → reaches_past (access_of (length m) a n) ≡ false
   served_past n e = rw e
 
-  served_grow : (n : ℕ) → access_of (length m) a n ≡ Access.Served → access_of (length (m ++ x)) a n ≡ Access.Served
+  served_grow : (n : ℕ) → access_of (length m) a n ≡ Ok tt → access_of (length (m ++ x)) a n ≡ Ok tt
   served_grow n e = access_grow m x a n (served_past n e) ∙ e
 
-  word_grow : access_of (length m) a 4 ≡ Access.Served → value_at Width.Word (m ++ x) a ≡ value_at Width.Word m a
+  word_grow : access_of (length m) a 4 ≡ Ok tt → value_at Width.Word (m ++ x) a ≡ value_at Width.Word m a
   unfolding load_of
   word_grow e = same_value (rw (served_grow 4 e, e) at (load_grow m x a Width.Word (served_past 4 e)))
 
-  double_grow : access_of (length m) a 8 ≡ Access.Served → double_at (m ++ x) a ≡ double_at m a
+  double_grow : access_of (length m) a 8 ≡ Ok tt → double_at (m ++ x) a ≡ double_at m a
   unfolding load_double_of
-  double_grow e = same_double (rw (served_grow 8 e, e) at (load_double_grow m x a (served_past 8 e)))
+  double_grow e = same_value (rw (served_grow 8 e, e) at (load_double_grow m x a (served_past 8 e)))
 
-module _ (op : StackOp) (ra : ℕ) (y : Part) (s : State) (m x : List ℕ) (e : access_of (length m) (address_of y) (size_of y) ≡ Access.Served) where
+module _ (op : StackOp) (ra : ℕ) (y : Part) (s : State) (m x : List ℕ) (e : access_of (length m) (address_of y) (size_of y) ≡ Ok tt) where
   part_state : state_after op ra y s (m ++ x) ≡ state_after op ra y s m
   part_state = state_cases op y e
     where
-      state_cases : (op : StackOp) (y : Part) → access_of (length m) (address_of y) (size_of y) ≡ Access.Served → state_after op ra y s (m ++ x) ≡ state_after op ra y s m
+      state_cases : (op : StackOp) (y : Part) → access_of (length m) (address_of y) (size_of y) ≡ Ok tt → state_after op ra y s (m ++ x) ≡ state_after op ra y s m
       state_cases StackOp.Lsku (pair n a) h = rw (double_grow m x a h)
       state_cases StackOp.Lsku (link a) h = rw (word_grow m x a h)
       state_cases StackOp.Lsku (back a) h = refl
@@ -97,9 +92,9 @@ framed_grow p op ra sp ea x (y ∷ ys) s m h =
     go : (k : Access) → access_of (length m) (address_of y) (size_of y) ≡ k → ((rest m).past ≡ false → framed_of p op ra sp ea ys (state_after op ra y s m) (memory_after op ra y s m ++ x) ≡ grown x (rest m))
         → (goes_on p s m (stores_of op) (address_of y) k (rest m)).past ≡ false
         → goes_on p s (m ++ x) (stores_of op) (address_of y) (access_of (length (m ++ x)) (address_of y) (size_of y)) (rest (m ++ x)) ≡ grown x (goes_on p s m (stores_of op) (address_of y) k (rest m))
-    go Access.Served e next f = rw (grew Access.Served e refl, part_state op ra y s m x e, part_memory op ra y s m x e) (next f)
-    go Access.Unaligned e next f = rw (grew Access.Unaligned e refl)
-    go Access.Outside e next f = never f
+    go (Ok tt) e next f = rw (grew (Ok tt) e refl, part_state op ra y s m x e, part_memory op ra y s m x e) (next f)
+    go (Err Fault.Unaligned) e next f = rw (grew (Err Fault.Unaligned) e refl)
+    go (Err Fault.Outside) e next f = never f
 
 stack_grow : (p : Profile) (s : State) (m x : List ℕ) (op : StackOp) (ra dd : ℕ) → (stack_of p s m op ra dd).past ≡ false → stack_of p s (m ++ x) op ra dd ≡ grown x (stack_of p s m op ra dd)
 unfolding stack_of
@@ -169,20 +164,20 @@ module _ (p : Profile) (s : State) (m x : List ℕ) where
   execute_grow w (Instr.System i) h = refl
   execute_grow w (Instr.Cache op hint ra rb) h = cache_grow op ra rb h
 
-  decoded_grow : (w : ℕ) (d : Decoded) → (decoded_of p s m w d).past ≡ false → decoded_of p s (m ++ x) w d ≡ grown x (decoded_of p s m w d)
-  decoded_grow w (Decoded.Insn i) h = execute_grow w i h
-  decoded_grow w Decoded.Illegal h = refl
+  decoded_grow : (w : ℕ) (d : Option Instr) → (decoded_of p s m w d).past ≡ false → decoded_of p s (m ++ x) w d ≡ grown x (decoded_of p s m w d)
+  decoded_grow w (Some i) h = execute_grow w i h
+  decoded_grow w None h = refl
 
   fetched_grow : (l : Loaded) → (fetched_of p s m l).past ≡ false → fetched_of p s (m ++ x) l ≡ grown x (fetched_of p s m l)
-  fetched_grow (Loaded.Value w) h = decoded_grow w (decode_on p w) h
-  fetched_grow Loaded.Unaligned h = refl
-  fetched_grow Loaded.Outside h = never h
+  fetched_grow (Ok w) h = decoded_grow w (decode_on p w) h
+  fetched_grow (Err Fault.Unaligned) h = refl
+  fetched_grow (Err Fault.Outside) h = never h
 
   -- a fetch that reaches past says so
   fetch_past : (k : Access) (v : ℕ) → (fetched_of p s m (loaded k v)).past ≡ false → reaches_past k ≡ false
-  fetch_past Access.Served v h = refl
-  fetch_past Access.Unaligned v h = refl
-  fetch_past Access.Outside v h = h
+  fetch_past (Ok tt) v h = refl
+  fetch_past (Err Fault.Unaligned) v h = refl
+  fetch_past (Err Fault.Outside) v h = h
 
   running_grow : (running_of p s m).past ≡ false → running_of p s (m ++ x) ≡ grown x (running_of p s m)
   unfolding running_of fetch_of
@@ -195,10 +190,10 @@ module _ (p : Profile) (s : State) (m x : List ℕ) where
   awake_cases true h = refl
   awake_cases false h = running_grow h
 
-  interruptible_grow : (q : Pending) → (interruptible_of p s m q).past ≡ false → interruptible_of p s (m ++ x) q ≡ grown x (interruptible_of p s m q)
+  interruptible_grow : (q : Option Vector) → (interruptible_of p s m q).past ≡ false → interruptible_of p s (m ++ x) q ≡ grown x (interruptible_of p s m q)
   unfolding awake_of
-  interruptible_grow (Pending.Take v) h = refl
-  interruptible_grow Pending.Nothing h = awake_cases (bit_at s.msr 13) h
+  interruptible_grow (Some v) h = refl
+  interruptible_grow None h = awake_cases (bit_at s.msr 13) h
 
 module _ (p : Profile) (s : State) (m x : List ℕ) (e : ℕ) where
   counted_cases : (b : Bool) → (pick b (plain (acted_of (ticked_of s e)) m) (interruptible_of p (ticked_of s e) m (highest_of (ticked_of s e) e))).past ≡ false

@@ -9,7 +9,8 @@ use Rattle.machine.specs.After.{After}
 use Rattle.machine.specs.Step.{step_of}
 use Rattle.machine.specs.declared.state.State.{State}
 use Rattle.run.specs.Run.{run_of, past_of, inside_of}
-use Rattle.run.specs.Outcome.{accepted, run_refusal, run_outcome, run_memory, run_past, inside_outcome, inside_memory}
+use Rattle.std.specs.Prelude.{Ok}
+use Rattle.run.specs.Outcome.{accepted, steps_of, check_run, run_outcome, run_memory, run_past, inside_outcome, inside_memory}
 use Rattle.promises.proofs.Cut.{met_of, cut_of, cut_is_run, cut_ends_first}
 
 abbrev reached : After → Bool
@@ -29,13 +30,13 @@ module _ (p : Profile) (s : State) (m ev : List ℕ) (budget : ℕ) where
   -- not reached: outcome and memory are the plain run's with the whole budget
   pub inside_is_run : run_past p s m ev budget ≡ false → (inside_outcome p s m ev budget ≡ run_outcome p s m ev budget) × (inside_memory p s m ev budget ≡ run_memory p s m ev budget)
   unfolding run_past inside_outcome inside_memory run_outcome run_memory
-  inside_is_run h = rw (inside_cut p budget 0 ev s m) (cut_is_run p reached (run_refusal p s m ev budget) s m ev budget (rw (past_met p budget 0 ev s m) at h))
+  inside_is_run h = rw (inside_cut p budget 0 ev s m) (cut_is_run p reached (check_run p s m ev budget) s m ev budget (rw (past_met p budget 0 ev s m) at h))
 
   -- reached: they are those of the run of as many steps as it took, the last of which reached and none before
   pub inside_ends_first : run_past p s m ev budget ≡ true
-      → (let n = (inside_outcome p s m ev budget).steps in
-      (inside_outcome p s m ev budget ≡ accepted (run_of p n 0 ev s m)) × ((inside_memory p s m ev budget ≡ (run_of p n 0 ev s m).mem) × ((past_of p (n - 1) 0 ev s m ≡ false) × (past_of p n 0 ev s m ≡ true))))
+      → (let n = steps_of (inside_outcome p s m ev budget) in
+      (inside_outcome p s m ev budget ≡ Ok (accepted (run_of p n 0 ev s m))) × ((inside_memory p s m ev budget ≡ (run_of p n 0 ev s m).mem) × ((past_of p (n - 1) 0 ev s m ≡ false) × (past_of p n 0 ev s m ≡ true))))
   unfolding run_past inside_outcome inside_memory
   inside_ends_first h =
-      let f = cut_ends_first p reached (run_refusal p s m ev budget) s m ev budget (rw (past_met p budget 0 ev s m) at h) in
+      let f = cut_ends_first p reached (check_run p s m ev budget) s m ev budget (rw (past_met p budget 0 ev s m) at h) in
       rw (inside_cut p budget 0 ev s m) (f.0, (f.1.0, (rw past_met f.1.1.0, rw past_met f.1.1.1)))

@@ -1,5 +1,4 @@
 -- The demands as theorems.
-pub mod Frames
 pub mod Grow
 pub mod Faults
 pub mod Reaches

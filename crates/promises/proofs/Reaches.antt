@@ -1,4 +1,5 @@
 -- Demand 1: every byte that a step reads or writes lies inside the lent memory, it changes no other byte, and no other byte decides what it leaves and writes. Assumes nothing.
+use Rattle.std.specs.Prelude.{Some, None, Option, Ok, Err, is_none}
 use Prim.Native.Nat.{ℕ, suc, ◌+◌, ◌<◌, ◌≤◌}
 use native.Mathlib.Omega.{arith}
 use native.Mathlib.Nat.{add-zero, add_assoc}
@@ -13,17 +14,15 @@ use borrow.Author.Tests.{eqb-true, eqb-false}
 use Rattle.word.specs.Bits.{bit_at}
 use Rattle.word.specs.Width.{bytes}
 use Rattle.word.specs.declared.width.Width.{Width}
-use Rattle.memory.specs.Access.{pick, aligned_of, access_of, fetch_access_of}
-use Rattle.memory.specs.Load.{value_at, double_at, loaded, load_of, loaded_double, load_double_of, fetch_of}
+use Rattle.memory.specs.Access.{Access, pick, aligned_of, access_of, fetch_access_of}
+use Rattle.memory.specs.Load.{Loaded, value_at, double_at, loaded, load_of, load_double_of, fetch_of}
 use Rattle.memory.specs.Store.{bytes_of, double_bytes, written, stored_of, stored_double_of, block_at, cleared_of}
-use Rattle.memory.specs.declared.access.Access.{Access}
-use Rattle.memory.specs.declared.load.Loaded.{Loaded}
+use Rattle.memory.specs.declared.access.Fault.{Fault}
 use Rattle.word.proofs.Truth.{never}
 use Rattle.memory.proofs.Laws.{served_inside, fetched_inside}
 use Rattle.memory.proofs.Grow.{bytes_length, double_length}
 use Rattle.insn.specs.Read.{decode_on}
 use Rattle.insn.specs.declared.instr.Instr.{Instr}
-use Rattle.insn.specs.declared.instr.Decoded.{Decoded}
 use Rattle.insn.specs.declared.instr.LoadStore.{LoadStore}
 use Rattle.insn.specs.declared.instr.StackOp.{StackOp}
 use Rattle.insn.specs.declared.instr.CacheOp.{CacheOp}
@@ -37,19 +36,17 @@ use Rattle.machine.specs.Interrupt.{entered_of}
 use Rattle.machine.specs.Timer.{ticked_of, acts_of, acted_of}
 use Rattle.machine.specs.Step.{execute_of, decoded_of, fetched_of, running_of, awake_of, highest_of, interruptible_of, counted_of, step_of}
 use Rattle.machine.specs.declared.state.State.{State}
-use Rattle.machine.specs.declared.step.Pending.{Pending}
-use Rattle.machine.proofs.Frames.{pop_memory, part_length}
-use Rattle.tell.specs.Uses.{load_store_use, stack_use, cache_use, execute_use, decoded_use, fetched_use, free, executes}
+use Rattle.machine.specs.declared.interrupt.Vector.{Vector}
+use Rattle.machine.proofs.Frames.{pop_memory, part_length, pushed_length}
+use Rattle.tell.specs.Uses.{load_store_use, stack_use, cache_use, execute_use, decoded_use, fetched_use, executes}
 use Rattle.tell.specs.declared.uses.Use.{Use}
 use Rattle.promises.specs.Reach.{Span, touched, touched_at, fetched_at, span_of, while_served, served_of, frame_spans, read_by, written_by, running_reads, running_writes, reads_of, writes_of, Inside, Misses, Agree, Alike}
-use Rattle.promises.proofs.Frames.{pushed_length}
 
 -- ---- inside
 
-touched_inside : (m a n : ℕ) (k : Access) → (k ≡ Access.Served → a + n ≤ m) → Inside m (touched k a n)
-touched_inside m a n Access.Served e = (e refl, tt)
-touched_inside m a n Access.Unaligned e = tt
-touched_inside m a n Access.Outside e = tt
+touched_inside : (m a n : ℕ) (k : Access) → (k ≡ Ok tt → a + n ≤ m) → Inside m (touched k a n)
+touched_inside m a n (Ok tt) e = (e refl, tt)
+touched_inside m a n (Err f) e = tt
 
 at_inside : (m : List ℕ) (a n : ℕ) → Inside (length m) (touched_at m a n)
 at_inside m a n = touched_inside (length m) a n (access_of (length m) a n) (served_inside (length m) a n)
@@ -65,10 +62,9 @@ picked_inside : (n : ℕ) (b : Bool) (xs : List Span) → Inside n xs → Inside
 picked_inside n true xs h = h
 picked_inside n false xs h = tt
 
-while_inside : (m : ℕ) (x : Span) (xs : List Span) (k : Access) → (k ≡ Access.Served → x.at + x.size ≤ m) → Inside m xs → Inside m (while_served k x xs)
-while_inside m x xs Access.Served e h = (e refl, h)
-while_inside m x xs Access.Unaligned e h = tt
-while_inside m x xs Access.Outside e h = tt
+while_inside : (m : ℕ) (x : Span) (xs : List Span) (k : Access) → (k ≡ Ok tt → x.at + x.size ≤ m) → Inside m xs → Inside m (while_served k x xs)
+while_inside m x xs (Ok tt) e h = (e refl, h)
+while_inside m x xs (Err f) e h = tt
 
 parts_inside : (m : ℕ) (xs : List Part) → Inside m (served_of m xs)
 unfolding served_of
@@ -78,12 +74,12 @@ parts_inside m (x ∷ xs) = while_inside m (span_of x) (served_of m xs) (access_
 frame_inside : (m : ℕ) (op : StackOp) (sp ea n : ℕ) → Inside m (frame_spans m op sp ea n)
 frame_inside m op sp ea n = picked_inside m (aligned_of sp 8) (served_of m (parts_of op sp ea n)) (parts_inside m (parts_of op sp ea n))
 
-use_inside : (m : List ℕ) (u : Use) → Inside (length m) (read_by m u) × Inside (length m) (written_by m u)
-use_inside m Use.Idle = (tt, tt)
-use_inside m (Use.Reads a n) = (at_inside m a n, tt)
-use_inside m (Use.Writes a n) = (tt, at_inside m a n)
-use_inside m (Use.Pops sp ea n) = (frame_inside (length m) StackOp.Lsku sp ea n, tt)
-use_inside m (Use.Pushes sp ea n) = (tt, frame_inside (length m) StackOp.Stsku sp ea n)
+use_inside : (m : List ℕ) (u : Option Use) → Inside (length m) (read_by m u) × Inside (length m) (written_by m u)
+use_inside m None = (tt, tt)
+use_inside m (Some (Use.Reads a n)) = (at_inside m a n, tt)
+use_inside m (Some (Use.Writes a n)) = (tt, at_inside m a n)
+use_inside m (Some (Use.Pops sp ea n)) = (frame_inside (length m) StackOp.Lsku sp ea n, tt)
+use_inside m (Some (Use.Pushes sp ea n)) = (tt, frame_inside (length m) StackOp.Stsku sp ea n)
 
 -- no access goes beyond the memory lent
 pub reads_inside : (p : Profile) (s : State) (m : List ℕ) (e : ℕ) → Inside (length m) (reads_of p s m e)
@@ -109,16 +105,14 @@ sets_other (b ∷ bs) m a k h =
     ∙ get_or-set_other m a k b 0 (λ e. ⊎_elim (λ l. omega arith) (λ r. omega arith) h)
 
 written_other : (m : List ℕ) (a k : ℕ) (bs : List ℕ) (c : Access) → Misses k (touched c a (length bs)) → get_or (written c m a bs) k 0 ≡ get_or m k 0
-written_other m a k bs Access.Served h = sets_other bs m a k h.0
-written_other m a k bs Access.Unaligned h = refl
-written_other m a k bs Access.Outside h = refl
+written_other m a k bs (Ok tt) h = sets_other bs m a k h.0
+written_other m a k bs (Err f) h = refl
 
 -- an access that is not served ends the frame with the memory that it had
-goes_other : (p : Profile) (s : State) (m : List ℕ) (k : ℕ) (store : Bool) (a : ℕ) (c : Access) (u : After) → (c ≡ Access.Served → get_or u.mem k 0 ≡ get_or m k 0)
+goes_other : (p : Profile) (s : State) (m : List ℕ) (k : ℕ) (store : Bool) (a : ℕ) (c : Access) (u : After) → (c ≡ Ok tt → get_or u.mem k 0 ≡ get_or m k 0)
     → get_or (goes_on p s m store a c u).mem k 0 ≡ get_or m k 0
-goes_other p s m k store a Access.Served u f = f refl
-goes_other p s m k store a Access.Unaligned u f = refl
-goes_other p s m k store a Access.Outside u f = refl
+goes_other p s m k store a (Ok tt) u f = f refl
+goes_other p s m k store a (Err fault) u f = refl
 
 push_other : (p : Profile) (ra sp ea : ℕ) (s : State) (k : ℕ) (xs : List Part) (m : List ℕ) → Misses k (served_of (length m) xs)
     → get_or (framed_of p StackOp.Stsku ra sp ea xs s m).mem k 0 ≡ get_or m k 0
@@ -143,7 +137,7 @@ module _ (p : Profile) (s : State) (m : List ℕ) (k : ℕ) where
   store_double_other ds ea u ra h =
       written_other m ea k (double_bytes (vdr_of s ds)) (access_of (length m) ea 8) (rw (double_length (vdr_of s ds)) h)
 
-  load_store_other : (i : LoadStore) → Misses k (written_by m (load_store_use s i)) → get_or (load_store_of p s m i).mem k 0 ≡ get_or m k 0
+  load_store_other : (i : LoadStore) → Misses k (written_by m (Some (load_store_use s i))) → get_or (load_store_of p s m i).mem k 0 ≡ get_or m k 0
   unfolding load_store_of load_at load_double_at
   load_store_other (LoadStore.Load w u rt ra d) h = refl
   load_store_other (LoadStore.LoadIndexed w rt ra rb) h = refl
@@ -157,7 +151,7 @@ module _ (p : Profile) (s : State) (m : List ℕ) (k : ℕ) where
   picked_other true t u f = f refl
   picked_other false t u f = refl
 
-  stack_other : (op : StackOp) (ra dd : ℕ) → Misses k (written_by m (stack_use s op ra dd)) → get_or (stack_of p s m op ra dd).mem k 0 ≡ get_or m k 0
+  stack_other : (op : StackOp) (ra dd : ℕ) → Misses k (written_by m (Some (stack_use s op ra dd))) → get_or (stack_of p s m op ra dd).mem k 0 ≡ get_or m k 0
   unfolding stack_of
   stack_other StackOp.Lsku ra dd h =
       picked_other (aligned_of (gpr_of s ra) 8) _ _ (λ e. ap (λ (b : List ℕ). get_or b k 0) (pop_memory p ra (gpr_of s ra) (frame_ea s ra dd) _ s m))
@@ -184,50 +178,49 @@ module _ (p : Profile) (s : State) (m : List ℕ) (k : ℕ) where
   execute_other w (Instr.System i) h = refl
   execute_other w (Instr.Cache op hint ra rb) h = cache_other op ra rb h
 
-  decoded_other : (w : ℕ) (d : Decoded) → Misses k (written_by m (decoded_use s d)) → get_or (decoded_of p s m w d).mem k 0 ≡ get_or m k 0
-  decoded_other w (Decoded.Insn i) h = execute_other w i h
-  decoded_other w Decoded.Illegal h = refl
+  decoded_other : (w : ℕ) (d : Option Instr) → Misses k (written_by m (decoded_use s d)) → get_or (decoded_of p s m w d).mem k 0 ≡ get_or m k 0
+  decoded_other w (Some i) h = execute_other w i h
+  decoded_other w None h = refl
 
   fetched_other : (l : Loaded) → Misses k (written_by m (fetched_use p s l)) → get_or (fetched_of p s m l).mem k 0 ≡ get_or m k 0
-  fetched_other (Loaded.Value w) h = decoded_other w (decode_on p w) h
-  fetched_other Loaded.Unaligned h = refl
-  fetched_other Loaded.Outside h = refl
+  fetched_other (Ok w) h = decoded_other w (decode_on p w) h
+  fetched_other (Err f) h = refl
 
 -- ---- whether a step gets to line 6
 
 -- a step by its four tests
-abbrev pub lines : Profile → Bool → Bool → Pending → Bool → State → State → List ℕ → After
-lines p halted acts (Pending.Take v) waits s t m = pick halted (pick acts (plain (acted_of t) m) (plain (entered_of p t v) m)) (plain s m)
-lines p halted acts Pending.Nothing waits s t m = pick halted (pick acts (plain (acted_of t) m) (pick waits (plain t m) (running_of p t m))) (plain s m)
+abbrev pub lines : Profile → Bool → Bool → Option Vector → Bool → State → State → List ℕ → After
+lines p halted acts (Some v) waits s t m = pick halted (pick acts (plain (acted_of t) m) (plain (entered_of p t v) m)) (plain s m)
+lines p halted acts None waits s t m = pick halted (pick acts (plain (acted_of t) m) (pick waits (plain t m) (running_of p t m))) (plain s m)
 
-runs_cases : (p : Profile) (h a : Bool) (q : Pending) (w : Bool) (s t : State) (m : List ℕ) → (h && not a && free q && not w) ≡ true → lines p h a q w s t m ≡ running_of p t m
-runs_cases p true true (Pending.Take v) w s t m e = never (sym e)
-runs_cases p true true Pending.Nothing w s t m e = never (sym e)
-runs_cases p true false (Pending.Take v) w s t m e = never (sym e)
-runs_cases p true false Pending.Nothing true s t m e = never (sym e)
-runs_cases p true false Pending.Nothing false s t m e = refl
-runs_cases p false a (Pending.Take v) w s t m e = never (sym e)
-runs_cases p false a Pending.Nothing w s t m e = never (sym e)
+runs_cases : (p : Profile) (h a : Bool) (q : Option Vector) (w : Bool) (s t : State) (m : List ℕ) → (h && not a && is_none q && not w) ≡ true → lines p h a q w s t m ≡ running_of p t m
+runs_cases p true true (Some v) w s t m e = never (sym e)
+runs_cases p true true None w s t m e = never (sym e)
+runs_cases p true false (Some v) w s t m e = never (sym e)
+runs_cases p true false None true s t m e = never (sym e)
+runs_cases p true false None false s t m e = refl
+runs_cases p false a (Some v) w s t m e = never (sym e)
+runs_cases p false a None w s t m e = never (sym e)
 
 -- what a step leaves that does not get there, whatever the memory
 abbrev Rests : (List ℕ → After) → Type 0
 Rests f = (m n : List ℕ) → ((f m).mem ≡ m) × (((f n).st ≡ (f m).st) × ((f n).past ≡ (f m).past))
 
-rests_cases : (p : Profile) (h a : Bool) (q : Pending) (w : Bool) (s t : State) → (h && not a && free q && not w) ≡ false → Rests (lines p h a q w s t)
-rests_cases p true true (Pending.Take v) w s t e m n = (refl, (refl, refl))
-rests_cases p true true Pending.Nothing w s t e m n = (refl, (refl, refl))
-rests_cases p true false (Pending.Take v) w s t e m n = (refl, (refl, refl))
-rests_cases p true false Pending.Nothing true s t e m n = (refl, (refl, refl))
-rests_cases p true false Pending.Nothing false s t e m n = never e
-rests_cases p false a (Pending.Take v) w s t e m n = (refl, (refl, refl))
-rests_cases p false a Pending.Nothing w s t e m n = (refl, (refl, refl))
+rests_cases : (p : Profile) (h a : Bool) (q : Option Vector) (w : Bool) (s t : State) → (h && not a && is_none q && not w) ≡ false → Rests (lines p h a q w s t)
+rests_cases p true true (Some v) w s t e m n = (refl, (refl, refl))
+rests_cases p true true None w s t e m n = (refl, (refl, refl))
+rests_cases p true false (Some v) w s t e m n = (refl, (refl, refl))
+rests_cases p true false None true s t e m n = (refl, (refl, refl))
+rests_cases p true false None false s t e m n = never e
+rests_cases p false a (Some v) w s t e m n = (refl, (refl, refl))
+rests_cases p false a None w s t e m n = (refl, (refl, refl))
 
 module _ (p : Profile) (s : State) (e : ℕ) where
-  interruptible_lines : (a h : Bool) (q : Pending) (m : List ℕ)
+  interruptible_lines : (a h : Bool) (q : Option Vector) (m : List ℕ)
       → pick h (pick a (plain (acted_of (ticked_of s e)) m) (interruptible_of p (ticked_of s e) m q)) (plain s m) ≡ lines p h a q (bit_at (ticked_of s e).msr 13) s (ticked_of s e) m
   unfolding awake_of
-  interruptible_lines a h (Pending.Take v) m = refl
-  interruptible_lines a h Pending.Nothing m = refl
+  interruptible_lines a h (Some v) m = refl
+  interruptible_lines a h None m = refl
 
   pub step_lines : (m : List ℕ) → step_of p s m e ≡ lines p (eqb s.halt 0) (acts_of s e) (highest_of (ticked_of s e) e) (bit_at (ticked_of s e).msr 13) s (ticked_of s e) m
   unfolding step_of counted_of
@@ -271,15 +264,13 @@ unfolding double_at
 double_same m n a h =
     rw (value_same Width.Word m n a (λ k l. h k (omega arith)), value_same Width.Word m n (a + 4) (λ k l. rw (add_assoc a 4 k) (h (4 + k) (omega arith))))
 
-loaded_double_same : (m n : List ℕ) (a : ℕ) (k : Access) → Agree m n (touched k a 8) → loaded_double k (double_at n a) ≡ loaded_double k (double_at m a)
-loaded_double_same m n a Access.Served h = rw (double_same m n a h.0)
-loaded_double_same m n a Access.Unaligned h = refl
-loaded_double_same m n a Access.Outside h = refl
+loaded_double_same : (m n : List ℕ) (a : ℕ) (k : Access) → Agree m n (touched k a 8) → loaded k (double_at n a) ≡ loaded k (double_at m a)
+loaded_double_same m n a (Ok tt) h = rw (double_same m n a h.0)
+loaded_double_same m n a (Err f) h = refl
 
 loaded_same : (w : Width) (m n : List ℕ) (a : ℕ) (k : Access) → Agree m n (touched k a (bytes w)) → loaded k (value_at w n a) ≡ loaded k (value_at w m a)
-loaded_same w m n a Access.Served h = rw (value_same w m n a h.0)
-loaded_same w m n a Access.Unaligned h = refl
-loaded_same w m n a Access.Outside h = refl
+loaded_same w m n a (Ok tt) h = rw (value_same w m n a h.0)
+loaded_same w m n a (Err f) h = refl
 
 agree_split : (m n : List ℕ) (xs ys : List Span) → Agree m n (xs ++ ys) → Agree m n xs × Agree m n ys
 agree_split m n [] ys h = (tt, h)
@@ -299,9 +290,8 @@ sets_same bs m n a l h k b = sets_at bs n a k (rw l h) b ∙ sym (sets_at bs m a
 
 written_same : (m n : List ℕ) (a : ℕ) (bs : List ℕ) (c : Access) → length n ≡ length m → access_of (length m) a (length bs) ≡ c
     → Agree (written c m a bs) (written c n a bs) (touched c a (length bs))
-written_same m n a bs Access.Served l e = (sets_same bs m n a l (served_inside (length m) a (length bs) e), tt)
-written_same m n a bs Access.Unaligned l e = tt
-written_same m n a bs Access.Outside l e = tt
+written_same m n a bs (Ok tt) l e = (sets_same bs m n a l (served_inside (length m) a (length bs) e), tt)
+written_same m n a bs (Err f) l e = tt
 
 -- where two memories agree, they still do once the same bytes are set in both
 set_keeps : (m n : List ℕ) (a b k : ℕ) → length n ≡ length m → a < length m → get_or n k 0 ≡ get_or m k 0 → get_or (set n a b) k 0 ≡ get_or (set m a b) k 0
@@ -335,11 +325,11 @@ goes_on_lem m n i j x xs u v a f r =
     }
 
 -- an access that is not served ends both frames with one interrupt
-goes_same : (p : Profile) (s : State) (m n : List ℕ) (store : Bool) (a : ℕ) (c : Access) (x : Span) (xs : List Span) (u v : After) → (c ≡ Access.Served → Goes m n (x ∷ xs) u v)
+goes_same : (p : Profile) (s : State) (m n : List ℕ) (store : Bool) (a : ℕ) (c : Access) (x : Span) (xs : List Span) (u v : After) → (c ≡ Ok tt → Goes m n (x ∷ xs) u v)
     → Goes m n (while_served c x xs) (goes_on p s m store a c u) (goes_on p s n store a c v)
-goes_same p s m n store a Access.Served x xs u v f = f refl
-goes_same p s m n store a Access.Unaligned x xs u v f = goes_end _ m n false
-goes_same p s m n store a Access.Outside x xs u v f = goes_end _ m n true
+goes_same p s m n store a (Ok tt) x xs u v f = f refl
+goes_same p s m n store a (Err Fault.Unaligned) x xs u v f = goes_end _ m n false
+goes_same p s m n store a (Err Fault.Outside) x xs u v f = goes_end _ m n true
 
 popped_same : (ra : ℕ) (x : Part) (s : State) (m n : List ℕ) → Agree m n (span_of x ∷ []) → popped ra x n s ≡ popped ra x m s
 popped_same ra (pair i a) s m n h = rw (double_same m n a h.0)
@@ -429,7 +419,7 @@ module _ (p : Profile) (m n : List ℕ) (l : length n ≡ length m) where
         let b = written_same m n (block_at ea) (replicate 32 0) (access_of (length m) (block_at ea) 32) l refl in
         record { st = rw l; past = rw l; places = rw l; written = rw l b }
 
-    load_store_same : (i : LoadStore) → Agree m n (read_by m (load_store_use s i)) → Alike (written_by m (load_store_use s i)) (written_by n (load_store_use s i)) (load_store_of p s m i) (load_store_of p s n i)
+    load_store_same : (i : LoadStore) → Agree m n (read_by m (Some (load_store_use s i))) → Alike (written_by m (Some (load_store_use s i))) (written_by n (Some (load_store_use s i))) (load_store_of p s m i) (load_store_of p s n i)
     unfolding load_store_of
     load_store_same (LoadStore.Load w u rt ra d) h = load_at_same w rt (offset_ea s ra d) u ra h
     load_store_same (LoadStore.LoadIndexed w rt ra rb) h = load_at_same w rt (indexed_ea s ra rb) false ra h
@@ -438,8 +428,8 @@ module _ (p : Profile) (m n : List ℕ) (l : length n ≡ length m) where
     load_store_same (LoadStore.LoadDouble u dt ra d) h = load_double_at_same dt (offset_ea s ra d) u ra h
     load_store_same (LoadStore.StoreDouble u ds ra d) h = store_double_at_same ds (offset_ea s ra d) u ra
 
-    stack_same : (op : StackOp) (ra dd : ℕ) → Agree m n (read_by m (stack_use s op ra dd))
-        → Alike (written_by m (stack_use s op ra dd)) (written_by n (stack_use s op ra dd)) (stack_of p s m op ra dd) (stack_of p s n op ra dd)
+    stack_same : (op : StackOp) (ra dd : ℕ) → Agree m n (read_by m (Some (stack_use s op ra dd)))
+        → Alike (written_by m (Some (stack_use s op ra dd))) (written_by n (Some (stack_use s op ra dd))) (stack_of p s m op ra dd) (stack_of p s n op ra dd)
     unfolding stack_of
     stack_same StackOp.Lsku ra dd h =
         let r = picked_same (aligned_of (gpr_of s ra) 8) _ _ _ _ (λ e. (pop_same p ra (gpr_of s ra) (frame_ea s ra dd) m n l _ s (rw e at h)).same) in
@@ -467,14 +457,14 @@ module _ (p : Profile) (m n : List ℕ) (l : length n ≡ length m) where
     execute_same w (Instr.System i) h = plain_same _
     execute_same w (Instr.Cache op hint ra rb) h = cache_same op ra rb
 
-    decoded_same : (w : ℕ) (d : Decoded) → Agree m n (read_by m (decoded_use s d)) → Alike (written_by m (decoded_use s d)) (written_by n (decoded_use s d)) (decoded_of p s m w d) (decoded_of p s n w d)
-    decoded_same w (Decoded.Insn i) h = execute_same w i h
-    decoded_same w Decoded.Illegal h = plain_same _
+    decoded_same : (w : ℕ) (d : Option Instr) → Agree m n (read_by m (decoded_use s d)) → Alike (written_by m (decoded_use s d)) (written_by n (decoded_use s d)) (decoded_of p s m w d) (decoded_of p s n w d)
+    decoded_same w (Some i) h = execute_same w i h
+    decoded_same w None h = plain_same _
 
     fetched_same : (f : Loaded) → Agree m n (read_by m (fetched_use p s f)) → Alike (written_by m (fetched_use p s f)) (written_by n (fetched_use p s f)) (fetched_of p s m f) (fetched_of p s n f)
-    fetched_same (Loaded.Value w) h = decoded_same w (decode_on p w) h
-    fetched_same Loaded.Unaligned h = plain_same _
-    fetched_same Loaded.Outside h = record { st = refl; past = refl; places = refl; written = tt }
+    fetched_same (Ok w) h = decoded_same w (decode_on p w) h
+    fetched_same (Err Fault.Unaligned) h = plain_same _
+    fetched_same (Err Fault.Outside) h = record { st = refl; past = refl; places = refl; written = tt }
 
     running_same : Agree m n (running_reads p s m) → Alike (running_writes p s m) (running_writes p s n) (running_of p s m) (running_of p s n)
     unfolding running_reads running_writes running_of

@@ -1,5 +1,6 @@
 -- C-16: a run of the 42 that meets no illegal word, no machine check and no tw with TG set, and that never writes a one to a bit which only one
 -- profile defines, is the same run on the 42X; and a run with such a tw that is not. Assumes nothing.
+use Rattle.std.specs.Prelude.{Some, None, Option, Ok, Err, is_none}
 use Prim.Native.Nat.{ℕ, zero, suc, ◌-◌, ◌%◌, ◌^◌, ◌<◌, ◌≤◌}
 use native.Mathlib.Omega.{arith}
 use native.Mathlib.Nat.{lt_of_le_of_lt, zero-div}
@@ -16,18 +17,16 @@ use Rattle.word.specs.Width.{bytes}
 use Rattle.word.specs.declared.width.Width.{Width}
 use Rattle.word.proofs.Truth.{never, and_true, or_false}
 use Rattle.word.proofs.ByBits.{xor, bit_and_lem, bit_xor_lem, word_is}
-use Rattle.memory.specs.Access.{pick, access_of, fetch_access_of, sized_of}
-use Rattle.memory.specs.Load.{value_at, loaded, load_of, loaded_double, load_double_of, fetch_of}
+use Rattle.memory.specs.Access.{Access, pick, access_of, fetch_access_of, sized_of}
+use Rattle.memory.specs.Load.{Loaded, value_at, loaded, load_of, load_double_of, fetch_of}
 use Rattle.memory.specs.Store.{bytes_of, block_at}
-use Rattle.memory.specs.declared.access.Access.{Access}
-use Rattle.memory.specs.declared.load.Loaded.{Loaded}
+use Rattle.memory.specs.declared.access.Fault.{Fault}
 use Rattle.insn.specs.Fields.{fields_of}
 use Rattle.insn.specs.Valid.{reg_of, valid_of}
 use Rattle.insn.specs.Profile.{has}
 use Rattle.insn.specs.Read.{decode_of, decode_on, primary, primary_rows, load_store, load_store_rows, added, added_rows, arithmetic, arithmetic_rows, logical, logical_rows, storage, storage_rows, system, system_rows}
 use Rattle.insn.specs.declared.profile.Profile.{Profile}
 use Rattle.insn.specs.declared.instr.Instr.{Instr}
-use Rattle.insn.specs.declared.instr.Decoded.{Decoded}
 use Rattle.insn.specs.declared.instr.LoadStore.{LoadStore}
 use Rattle.insn.specs.declared.instr.System.{System}
 use Rattle.insn.specs.declared.instr.SprOp.{SprOp}
@@ -35,8 +34,9 @@ use Rattle.insn.specs.declared.instr.MoveOp.{MoveOp}
 use Rattle.insn.specs.declared.instr.CacheOp.{CacheOp}
 use Rattle.insn.proofs.Round.{read_on_42x, read_written_on}
 use Rattle.machine.specs.State.{gpr_of, with, registers}
+use Rattle.std.specs.Prelude.{Result, Ok, IsOkAnd}
 use Rattle.machine.specs.Refusal.{unless}
-use Rattle.machine.specs.Register.{defined_of, clean_of, sound_of, refusal_of, start_refusal}
+use Rattle.machine.specs.Register.{defined_of, clean_of, sound_of, check_of, check_start}
 use Rattle.machine.specs.After.{After, plain}
 use Rattle.machine.specs.Interrupt.{offset_of, entered_of, vector_for, access_noted, program_noted, noted_of, halted_of, taken_for, interrupted_of}
 use Rattle.machine.specs.LoadStore.{offset_ea, indexed_ea, loaded_state, stored_state, load_at, store_at, loaded_double_state, load_double_at, store_double_at, load_store_of}
@@ -50,19 +50,17 @@ use Rattle.machine.specs.declared.state.Reg.{Reg}
 use Rattle.machine.specs.declared.interrupt.Cause.{Cause}
 use Rattle.machine.specs.declared.interrupt.Vector.{Vector}
 use Rattle.machine.specs.declared.interrupt.Halt.{Halt}
-use Rattle.machine.specs.declared.step.Pending.{Pending}
 use Rattle.machine.specs.declared.refusal.Refusal.{Refusal}
 use Rattle.tell.specs.Fault.{access_raises, load_store_raises, cache_raises, execute_raises, decoded_raises, fetched_raises, raised_of}
-use Rattle.tell.specs.Uses.{free, executes}
+use Rattle.tell.specs.Uses.{executes}
 use Rattle.tell.specs.Told.{vector_code}
-use Rattle.tell.specs.declared.fault.Raised.{Raised}
 use Rattle.run.specs.Run.{Ran, run_of, past_of}
-use Rattle.run.specs.Outcome.{events_good, events_refusal, run_refusal, run_outcome, run_memory}
+use Rattle.run.specs.Outcome.{events_good, check_events, check_run, state_left, run_outcome, run_memory}
 use Rattle.run.specs.declared.outcome.Outcome.{Outcome}
 use Rattle.promises.specs.Same.{unshared, is_illegal, sets_tg, system_writes, instr_writes, of_instr, of_word, raises, promotes, meets_illegal, meets_check, meets_tg, writes_unshared, some_step, Common, Parts}
 use Rattle.promises.proofs.Clean.{clean_wider}
 use Rattle.promises.proofs.Sound.{Sound, accepted_sound, sound_accepted}
-use Rattle.promises.proofs.Accepted.{first_none, second_none}
+use Rattle.promises.proofs.Accepted.{first_ok, second_ok}
 use Rattle.promises.proofs.Reaches.{lines, step_lines}
 use Rattle.promises.proofs.Told.{Asynchronous, highest_asynchronous}
 
@@ -190,35 +188,31 @@ interrupted_same s c h =
 -- ---- instructions
 
 -- where it is raised, it is the same on both
-abbrev Fair : State → Raised → Type 0
-Fair s r = (c : Cause) → r ≡ Raised.Raises c → interrupted_of Profile.Ppe42x s c ≡ interrupted_of Profile.Ppe42 s c
+abbrev Fair : State → Option Cause → Type 0
+Fair s r = (c : Cause) → r ≡ Some c → interrupted_of Profile.Ppe42x s c ≡ interrupted_of Profile.Ppe42 s c
 
-fair : (s : State) (r : Raised) → (raises r && promotes s) ≡ false → Fair s r
-fair s Raised.Nothing h c e = let z : ◌≡◌ {A = ℕ} 0 1 = cc in absurd (omega arith)
-fair s (Raised.Raises d) h c e = interrupted_same s c h
+fair : (s : State) (r : Option Cause) → (raises r && promotes s) ≡ false → Fair s r
+fair s None h c e = let z : ◌≡◌ {A = ℕ} 0 1 = cc in absurd (omega arith)
+fair s (Some d) h c e = interrupted_same s c h
 
 module _ (s : State) (m : List ℕ) where
   load_same : (k : Access) (v rt : ℕ) (u : Bool) (ra ea : ℕ) → Fair s (access_raises k ea false)
       → loaded_state Profile.Ppe42x s (loaded k v) rt u ra ea ≡ loaded_state Profile.Ppe42 s (loaded k v) rt u ra ea
-  load_same Access.Served v rt u ra ea h = refl
-  load_same Access.Unaligned v rt u ra ea h = h _ refl
-  load_same Access.Outside v rt u ra ea h = h _ refl
+  load_same (Ok tt) v rt u ra ea h = refl
+  load_same (Err f) v rt u ra ea h = h _ refl
 
   load_double_same : (k : Access) (v dt : ℕ) (u : Bool) (ra ea : ℕ) → Fair s (access_raises k ea false)
-      → loaded_double_state Profile.Ppe42x s (loaded_double k v) dt u ra ea ≡ loaded_double_state Profile.Ppe42 s (loaded_double k v) dt u ra ea
-  load_double_same Access.Served v dt u ra ea h = refl
-  load_double_same Access.Unaligned v dt u ra ea h = h _ refl
-  load_double_same Access.Outside v dt u ra ea h = h _ refl
+      → loaded_double_state Profile.Ppe42x s (loaded k v) dt u ra ea ≡ loaded_double_state Profile.Ppe42 s (loaded k v) dt u ra ea
+  load_double_same (Ok tt) v dt u ra ea h = refl
+  load_double_same (Err f) v dt u ra ea h = h _ refl
 
   store_same : (k : Access) (u : Bool) (ra ea : ℕ) → Fair s (access_raises k ea true) → stored_state Profile.Ppe42x s k u ra ea ≡ stored_state Profile.Ppe42 s k u ra ea
-  store_same Access.Served u ra ea h = refl
-  store_same Access.Unaligned u ra ea h = h _ refl
-  store_same Access.Outside u ra ea h = h _ refl
+  store_same (Ok tt) u ra ea h = refl
+  store_same (Err f) u ra ea h = h _ refl
 
   clear_same : (k : Access) (ea : ℕ) → Fair s (access_raises k ea true) → cleared_state Profile.Ppe42x s k ea ≡ cleared_state Profile.Ppe42 s k ea
-  clear_same Access.Served ea h = refl
-  clear_same Access.Unaligned ea h = h _ refl
-  clear_same Access.Outside ea h = h _ refl
+  clear_same (Ok tt) ea h = refl
+  clear_same (Err f) ea h = h _ refl
 
   -- what is left with another state
   leaving : {t u : State} (x : List ℕ) (past : Bool) → t ≡ u → ◌≡◌ {A = After} (record { st = t; mem = x; past = past }) (record { st = u; mem = x; past = past })
@@ -240,7 +234,7 @@ module _ (s : State) (m : List ℕ) where
   cache_same CacheOp.Dcbt ra rb h = refl
   cache_same CacheOp.Dcbz ra rb h = leaving _ _ (clear_same (access_of (length m) (block_at (indexed_ea s ra rb)) 32) (indexed_ea s ra rb) h)
 
-  trap_cases : (w : ℕ) (a b : Bool) (x y : State) → Fair s (pick a Raised.Nothing (pick b Raised.Nothing (Raised.Raises (Cause.Program w true))))
+  trap_cases : (w : ℕ) (a b : Bool) (x y : State) → Fair s (pick a None (pick b None (Some (Cause.Program w true))))
       → pick a x (pick b y (interrupted_of Profile.Ppe42x s (Cause.Program w true))) ≡ pick a x (pick b y (interrupted_of Profile.Ppe42 s (Cause.Program w true)))
   trap_cases w true b x y h = refl
   trap_cases w false true x y h = refl
@@ -275,16 +269,16 @@ module _ (s : State) (m : List ℕ) where
   execute_same w (Instr.Cache op hint ra rb) o f t u = cache_same op ra rb f
 
   -- what the 42 reads, the 42X reads as the same
-  decoded_same : (w : ℕ) (d : Decoded) → decode_on Profile.Ppe42 w ≡ d → is_illegal d ≡ false → Fair s (decoded_raises Profile.Ppe42 s m w d) → of_instr sets_tg d ≡ false
+  decoded_same : (w : ℕ) (d : Option Instr) → decode_on Profile.Ppe42 w ≡ d → is_illegal d ≡ false → Fair s (decoded_raises Profile.Ppe42 s m w d) → of_instr sets_tg d ≡ false
       → of_instr (instr_writes s) d ≡ false → decoded_of Profile.Ppe42x s m w (decode_on Profile.Ppe42x w) ≡ decoded_of Profile.Ppe42 s m w d
-  decoded_same w (Decoded.Insn i) e l f t u = rw (read_on_42x w i e) (execute_same w i (and_true (has Profile.Ppe42 i) (valid_of i) (read_written_on Profile.Ppe42 w i e).0).0 f t u)
-  decoded_same w Decoded.Illegal e l f t u = never l
+  decoded_same w (Some i) e l f t u = rw (read_on_42x w i e) (execute_same w i (and_true (has Profile.Ppe42 i) (valid_of i) (read_written_on Profile.Ppe42 w i e).0).0 f t u)
+  decoded_same w None e l f t u = never l
 
   fetched_same : (k : Loaded) → of_word is_illegal k ≡ false → Fair s (fetched_raises Profile.Ppe42 s m k) → of_word (of_instr sets_tg) k ≡ false → of_word (of_instr (instr_writes s)) k ≡ false
       → fetched_of Profile.Ppe42x s m k ≡ fetched_of Profile.Ppe42 s m k
-  fetched_same (Loaded.Value w) l f t u = decoded_same w (decode_on Profile.Ppe42 w) refl l f t u
-  fetched_same Loaded.Unaligned l f t u = leaving m false (f _ refl)
-  fetched_same Loaded.Outside l f t u = leaving m true (f _ refl)
+  fetched_same (Ok w) l f t u = decoded_same w (decode_on Profile.Ppe42 w) refl l f t u
+  fetched_same (Err Fault.Unaligned) l f t u = leaving m false (f _ refl)
+  fetched_same (Err Fault.Outside) l f t u = leaving m true (f _ refl)
 
   running_same : meets_illegal s m ≡ false → meets_check s m ≡ false → meets_tg s m ≡ false → writes_unshared s m ≡ false → running_of Profile.Ppe42x s m ≡ running_of Profile.Ppe42 s m
   unfolding meets_illegal meets_check meets_tg writes_unshared running_of raised_of
@@ -292,16 +286,16 @@ module _ (s : State) (m : List ℕ) where
 
 -- ---- steps and runs
 
-lines_same : (h a : Bool) (q : Pending) (w : Bool) (s t : State) (m : List ℕ) → Asynchronous q
-    → ((h && not a && free q && not w) ≡ true → running_of Profile.Ppe42x t m ≡ running_of Profile.Ppe42 t m)
+lines_same : (h a : Bool) (q : Option Vector) (w : Bool) (s t : State) (m : List ℕ) → Asynchronous q
+    → ((h && not a && is_none q && not w) ≡ true → running_of Profile.Ppe42x t m ≡ running_of Profile.Ppe42 t m)
     → lines Profile.Ppe42x h a q w s t m ≡ lines Profile.Ppe42 h a q w s t m
-lines_same true true (Pending.Take v) w s t m l r = refl
-lines_same true true Pending.Nothing w s t m l r = refl
-lines_same true false (Pending.Take v) w s t m l r = ap (λ (x : State). plain x m) (entered_same t v (taken_offset v l))
-lines_same true false Pending.Nothing true s t m l r = refl
-lines_same true false Pending.Nothing false s t m l r = r refl
-lines_same false a (Pending.Take v) w s t m l r = refl
-lines_same false a Pending.Nothing w s t m l r = refl
+lines_same true true (Some v) w s t m l r = refl
+lines_same true true None w s t m l r = refl
+lines_same true false (Some v) w s t m l r = ap (λ (x : State). plain x m) (entered_same t v (taken_offset v l))
+lines_same true false None true s t m l r = refl
+lines_same true false None false s t m l r = r refl
+lines_same false a (Some v) w s t m l r = refl
+lines_same false a None w s t m l r = refl
 
 -- a step is the same where line 6 is, if it gets there
 step_same : (s : State) (m : List ℕ) (e : ℕ) → (executes s e ≡ true → running_of Profile.Ppe42x (ticked_of s e) m ≡ running_of Profile.Ppe42 (ticked_of s e) m)
@@ -358,15 +352,15 @@ sound_on_42x s k =
 
 module _ (s : State) (m ev : List ℕ) (budget : ℕ) where
   -- a run that the 42 accepts, both accept
-  pub both_accept : run_refusal Profile.Ppe42 s m ev budget ≡ Refusal.None → run_refusal Profile.Ppe42x s m ev budget ≡ Refusal.None
-  unfolding run_refusal start_refusal
+  pub both_accept : check_run Profile.Ppe42 s m ev budget ≡ Ok tt → check_run Profile.Ppe42x s m ev budget ≡ Ok tt
+  unfolding check_run check_start
   both_accept h =
-      let e : refusal_of Profile.Ppe42 s ≡ Refusal.None = second_none (unless (sized_of (length m)) Refusal.Memory) (refusal_of Profile.Ppe42 s) (first_none (start_refusal Profile.Ppe42 s (length m)) _ h) in
-      let x : refusal_of Profile.Ppe42x s ≡ Refusal.None = sound_accepted (sound_on_42x s (accepted_sound s e)) in
+      let e : check_of Profile.Ppe42 s ≡ Ok tt = second_ok (unless (sized_of (length m)) Refusal.Memory) (check_of Profile.Ppe42 s) (first_ok (check_start Profile.Ppe42 s (length m)) _ h) in
+      let x : check_of Profile.Ppe42x s ≡ Ok tt = sound_accepted (sound_on_42x s (accepted_sound s e)) in
       rw x (rw e at h)
 
   -- C-16: the answer and the memory are the same on both
-  pub same_outcome : run_refusal Profile.Ppe42 s m ev budget ≡ Refusal.None → Common budget 0 ev s m
+  pub same_outcome : check_run Profile.Ppe42 s m ev budget ≡ Ok tt → Common budget 0 ev s m
       → (run_outcome Profile.Ppe42x s m ev budget ≡ run_outcome Profile.Ppe42 s m ev budget) × (run_memory Profile.Ppe42x s m ev budget ≡ run_memory Profile.Ppe42 s m ev budget)
   unfolding run_outcome run_memory
   same_outcome h k = rw (h, both_accept h, same_run budget 0 ev s m k) (refl, refl)
@@ -381,23 +375,23 @@ trapping = record { gpr = replicate 16 0; cr = 0; ctr = 0; dacr = 0; dbcr = 0x01
 abbrev pub tw_tg : List ℕ
 tw_tg = bytes_of Width.Word 0x7FE0_0009 ++ replicate 28 0
 
-tg_accepted : (p : Profile) → run_refusal p trapping tw_tg [] 1 ≡ Refusal.None
-unfolding run_refusal start_refusal refusal_of sound_of clean_of sized_of events_refusal events_good bytes_of
+tg_accepted : (p : Profile) → check_run p trapping tw_tg [] 1 ≡ Ok tt
+unfolding check_run check_start check_of sound_of clean_of sized_of check_events events_good bytes_of
 tg_accepted Profile.Ppe42 = refl
 tg_accepted Profile.Ppe42x = refl
 
 -- the 42 traps, so that it halts with 3, and the 42X goes on to the next word
-pub tg_traps : ((run_outcome Profile.Ppe42 trapping tw_tg [] 1).halt ≡ 3) × (((run_outcome Profile.Ppe42x trapping tw_tg [] 1).halt ≡ 0) × ((run_outcome Profile.Ppe42x trapping tw_tg [] 1).state.iar ≡ 4))
+pub tg_traps : IsOkAnd (run_outcome Profile.Ppe42 trapping tw_tg [] 1) (λ o. o.halt ≡ 3) × IsOkAnd (run_outcome Profile.Ppe42x trapping tw_tg [] 1) (λ o. (o.halt ≡ 0) × (o.state.iar ≡ 4))
 unfolding bytes_of decode_on decode_of fields_of reg_of primary primary_rows load_store load_store_rows added added_rows arithmetic arithmetic_rows logical logical_rows storage storage_rows system system_rows
     step_of counted_of ticked_of dec_after tsr_after event_noted pending_of acts_of highest_of awake_of running_of fetch_of fetch_access_of access_of value_at execute_of trap_of halted_of next_of with put_at mask
-    run_refusal start_refusal refusal_of sound_of clean_of sized_of events_refusal events_good run_of run_outcome
+    check_run check_start check_of sound_of clean_of sized_of check_events events_good run_of run_outcome
 tg_traps = (refl, (refl, refl))
 
 -- so C-16 needs its premise on tw
 pub tg_parts : Parts trapping tw_tg [] 1
 unfolding bytes_of decode_on decode_of fields_of reg_of primary primary_rows load_store load_store_rows added added_rows arithmetic arithmetic_rows logical logical_rows storage storage_rows system system_rows
     step_of counted_of ticked_of dec_after tsr_after event_noted pending_of acts_of highest_of awake_of running_of fetch_of fetch_access_of access_of value_at execute_of trap_of halted_of next_of with put_at mask
-    run_refusal start_refusal refusal_of sound_of clean_of sized_of events_refusal events_good run_of run_outcome
+    check_run check_start check_of sound_of clean_of sized_of check_events events_good run_of run_outcome
     executes some_step meets_illegal meets_check writes_unshared raised_of
 tg_parts =
     record {
@@ -405,5 +399,5 @@ tg_parts =
       no_illegal = refl;
       no_check = refl;
       no_write = refl;
-      differs = λ e. let z : ◌≡◌ {A = ℕ} 0 3 = ap (λ (o : Outcome). o.halt) e in omega (arith, z);
+      differs = λ e. let z : ◌≡◌ {A = ℕ} 0 3 = ap (λ (o : Result Outcome Refusal). (state_left trapping o).halt) e in omega (arith, z);
     }

@@ -1,11 +1,12 @@
 -- Sound states, the ones that a run accepts, and each way in which a step changes a state: it leaves a sound one. Assumes nothing.
+use Rattle.std.specs.Prelude.{Ok, Err}
 use Prim.Native.Nat.{ℕ, ◌%◌, ◌≤◌}
 use native.Mathlib.Omega.{arith}
 use mathlib.Core.Bool.{Bool, true, false, ◌&&◌, ◌||◌, cond}
 use mathlib.Core.Path.{◌≡◌, refl, ap, sym, ◌∙◌}
 use mathlib.Core.List.{List}
 use lib.Bits.{bit_and, and_mask}
-use lib.Dec.{lit≤, eqb}
+use lib.Dec.{eqb}
 use borrow.Author.Tests.{eqb-true, eq-eqb, leb-true, le-leb}
 use Rattle.word.specs.Bits.{digit, bit_at, bits_at, field_at}
 use Rattle.word.specs.Logical.{inv}
@@ -15,12 +16,9 @@ use Rattle.word.specs.Rotate.{word_of, mask, put_at}
 use Rattle.word.specs.declared.sum.Sum.{Sum}
 use Rattle.word.specs.declared.width.Width.{Width}
 use Rattle.word.specs.declared.shift.Shifted.{Shifted}
-use Rattle.memory.specs.Access.{pick}
-use Rattle.memory.specs.Load.{value_at}
-use Rattle.memory.specs.declared.access.Access.{Access}
-use Rattle.memory.specs.declared.load.Loaded.{Loaded}
-use Rattle.memory.specs.declared.load.LoadedDouble.{LoadedDouble}
-use Rattle.word.proofs.Truth.{never, and_left, and_right}
+use Rattle.memory.specs.Access.{Access, pick}
+use Rattle.memory.specs.Load.{Loaded, value_at}
+use Rattle.word.proofs.Truth.{and_left, and_right}
 use Rattle.insn.specs.declared.instr.Arithmetic.{Arithmetic}
 use Rattle.insn.specs.declared.instr.Logical.{Logical}
 use Rattle.insn.specs.declared.instr.Compare.{Compare}
@@ -36,9 +34,10 @@ use Rattle.insn.specs.Valid.{paired_with}
 use Rattle.insn.specs.Profile.{is42x}
 use Rattle.insn.specs.declared.profile.Profile.{Profile}
 use Rattle.machine.specs.State.{gpr_of, with, with_gpr, with_vdr}
-use Rattle.machine.specs.Refusal.{accepts_of}
-use Rattle.machine.specs.Register.{defined_of, clean_of, sound_of, refusal_of}
-use Rattle.machine.specs.Interrupt.{offset_of, vector_at, kept_of, entered_of, vector_for, access_noted, program_noted, noted_of, promotion_of, promoted_of, code_of, halted_of, taken_for, interrupted_of}
+use Rattle.std.specs.Prelude.{is_ok}
+use Rattle.machine.specs.Refusal.{unless}
+use Rattle.machine.specs.Register.{defined_of, clean_of, sound_of, check_of}
+use Rattle.machine.specs.Interrupt.{cause_of, offset_of, vector_at, kept_of, entered_of, vector_for, access_noted, program_noted, noted_of, promotion_of, promoted_of, code_of, halted_of, taken_for, interrupted_of}
 use Rattle.machine.specs.Timer.{tsr_after, event_noted, ticked_of, acted_of}
 use Rattle.machine.specs.Result.{following, next_of, so_of, cr0_of, recorded_of, carried_of, overflowed_of, result_of, recorded_double_of, double_result_of}
 use Rattle.machine.specs.Arithmetic.{summed_of, multiplied_of, arithmetic_of}
@@ -56,6 +55,8 @@ use Rattle.machine.specs.declared.interrupt.Vector.{Vector}
 use Rattle.machine.specs.declared.interrupt.Cause.{Cause}
 use Rattle.machine.specs.declared.interrupt.Halt.{Halt}
 use Rattle.machine.specs.declared.refusal.Refusal.{Refusal}
+use Rattle.machine.proofs.Halts.{code_small}
+use Rattle.machine.proofs.Refusals.{and_accepts, unless_accepts}
 use Rattle.promises.proofs.Clean.{Clean, clean_any, clean_or, clean_and, clean_defined, clean_put, clean_last}
 
 -- no reserved bit is set, and the halt code is one of 0 to 5
@@ -83,15 +84,12 @@ and_both : (a b : Bool) → a ≡ true → b ≡ true → (a && b) ≡ true
 and_both true b h k = k
 and_both false b h k = h
 
-accepted_cases : (u q : Bool) → pick u (pick q Refusal.None Refusal.Reserved) Refusal.Iar ≡ Refusal.None → (u ≡ true) × (q ≡ true)
-accepted_cases true true h = (refl, refl)
-accepted_cases true false h = never (ap accepts_of (sym h))
-accepted_cases false q h = never (ap accepts_of (sym h))
-
-pub accepted_sound : {p : Profile} (s : State) → refusal_of p s ≡ Refusal.None → Sound p s
-unfolding refusal_of sound_of clean_of
+pub accepted_sound : {p : Profile} (s : State) → check_of p s ≡ Ok tt → Sound p s
+unfolding check_of sound_of clean_of
 accepted_sound {p} s h =
-    let (a, c) = accepted_cases (eqb (s.iar % 4) 0) (sound_of p s) h in
+    let q = and_accepts (unless (eqb (s.iar % 4) 0) Refusal.Iar) (unless (sound_of p s) Refusal.Reserved) (ap is_ok h) in
+    let a : eqb (s.iar % 4) 0 ≡ true = unless_accepts (eqb (s.iar % 4) 0) Refusal.Iar q.0 in
+    let c : sound_of p s ≡ true = unless_accepts (sound_of p s) Refusal.Reserved q.1 in
     let i : Clean (defined_of p Reg.Iar) s.iar = clean_last 2 s.iar refl (eqb-true (s.iar % 4) 0 a) in
     search (and_left, and_right, eqb-true, leb-true) depth 14
 
@@ -130,20 +128,13 @@ unfolding mask word_of
 wrc_defined Profile.Ppe42 = refl
 wrc_defined Profile.Ppe42x = refl
 
-code_small : (h : Halt) → code_of h ≤ 5
-code_small Halt.MachineCheck = lit≤ tt
-code_small Halt.Debug = lit≤ tt
-code_small Halt.Trap = lit≤ tt
-code_small Halt.Watchdog = lit≤ tt
-code_small Halt.Reset = lit≤ tt
-
 -- one register written
 module _ {p : Profile} {s : State} (k : Sound p s) where
   iar_aligned : Aligned s.iar
   iar_aligned = sym (and_mask s.iar 2) ∙ k.iar.none
 
-  pub sound_accepted : refusal_of p s ≡ Refusal.None
-  unfolding refusal_of sound_of clean_of
+  pub sound_accepted : check_of p s ≡ Ok tt
+  unfolding check_of sound_of clean_of
   sound_accepted =
       let c : sound_of p s ≡ true = search (and_both, eq-eqb, le-leb) depth 14 in
       rw (eq-eqb (s.iar % 4) 0 iar_aligned, c)
@@ -400,14 +391,12 @@ module _ {p : Profile} {s : State} (k : Sound p s) where
   system_sound System.Sync = next_sound k
 
   pub loaded_sound : (l : Loaded) (rt : ℕ) (update : Bool) (ra ea : ℕ) → Sound p (loaded_state p s l rt update ra ea)
-  loaded_sound (Loaded.Value v) rt update ra ea = next_sound (gpr_sound (updated_sound k update ra ea) rt v)
-  loaded_sound Loaded.Unaligned rt update ra ea = interrupted_sound k (Cause.Alignment ea false)
-  loaded_sound Loaded.Outside rt update ra ea = interrupted_sound k (Cause.DataStorage ea false)
+  loaded_sound (Ok v) rt update ra ea = next_sound (gpr_sound (updated_sound k update ra ea) rt v)
+  loaded_sound (Err f) rt update ra ea = interrupted_sound k (cause_of f ea false)
 
-  pub loaded_double_sound : (l : LoadedDouble) (dt : ℕ) (update : Bool) (ra ea : ℕ) → Sound p (loaded_double_state p s l dt update ra ea)
-  loaded_double_sound (LoadedDouble.Value v) dt update ra ea = next_sound (vdr_sound (updated_sound k update ra ea) dt v)
-  loaded_double_sound LoadedDouble.Unaligned dt update ra ea = interrupted_sound k (Cause.Alignment ea false)
-  loaded_double_sound LoadedDouble.Outside dt update ra ea = interrupted_sound k (Cause.DataStorage ea false)
+  pub loaded_double_sound : (l : Loaded) (dt : ℕ) (update : Bool) (ra ea : ℕ) → Sound p (loaded_double_state p s l dt update ra ea)
+  loaded_double_sound (Ok v) dt update ra ea = next_sound (vdr_sound (updated_sound k update ra ea) dt v)
+  loaded_double_sound (Err f) dt update ra ea = interrupted_sound k (cause_of f ea false)
 
   -- lsku and stsku, access by access and at their end
   read_sound : (ra n v : ℕ) → Sound p (read_gpr s ra n v)
@@ -418,14 +407,12 @@ module _ {p : Profile} {s : State} (k : Sound p s) where
   framed_sound ra ea edr = next_sound (gpr_sound (with_sound k Reg.Edr (clean_any edr) k.halt) ra ea)
 
   pub stored_sound : (a : Access) (update : Bool) (ra ea : ℕ) → Sound p (stored_state p s a update ra ea)
-  stored_sound Access.Served update ra ea = next_sound (updated_sound k update ra ea)
-  stored_sound Access.Unaligned update ra ea = interrupted_sound k (Cause.Alignment ea true)
-  stored_sound Access.Outside update ra ea = interrupted_sound k (Cause.DataStorage ea true)
+  stored_sound (Ok tt) update ra ea = next_sound (updated_sound k update ra ea)
+  stored_sound (Err f) update ra ea = interrupted_sound k (cause_of f ea true)
 
   pub cleared_sound : (a : Access) (ea : ℕ) → Sound p (cleared_state p s a ea)
-  cleared_sound Access.Served ea = next_sound k
-  cleared_sound Access.Unaligned ea = interrupted_sound k (Cause.Alignment ea true)
-  cleared_sound Access.Outside ea = interrupted_sound k (Cause.DataStorage ea true)
+  cleared_sound (Ok tt) ea = next_sound k
+  cleared_sound (Err f) ea = interrupted_sound k (cause_of f ea true)
 
 pub part_sound : {p : Profile} {s : State} → Sound p s → (op : StackOp) (ra : ℕ) (x : Part) (m : List ℕ) → Sound p (state_after op ra x s m)
 unfolding with

@@ -1,4 +1,5 @@
 -- What is told of a step is what the step does, and the access that is told is all that it writes. Assumes nothing.
+use Rattle.std.specs.Prelude.{Some, None, Option, Ok, Err}
 use Prim.Native.Nat.{ℕ, ◌+◌, ◌<◌, ◌≤◌}
 use mathlib.Core.Bool.{Bool, true, false, ◌&&◌}
 use mathlib.Core.List.{List, [], ◌∷◌}
@@ -8,9 +9,8 @@ use lib.Dec.{eqb, lit≤}
 use lib.ListN.{length}
 use lib.Seq.{ext_get_or}
 use Rattle.word.specs.Bits.{bit_at}
-use Rattle.memory.specs.Access.{pick, aligned_of, access_of}
+use Rattle.memory.specs.Access.{Access, pick, aligned_of, access_of}
 use Rattle.memory.specs.Load.{fetch_of}
-use Rattle.memory.specs.declared.access.Access.{Access}
 use Rattle.insn.specs.declared.instr.StackOp.{StackOp}
 use Rattle.insn.specs.declared.profile.Profile.{Profile}
 use Rattle.machine.specs.After.{plain}
@@ -19,11 +19,10 @@ use Rattle.machine.specs.Timer.{external_in, ticked_of, acts_of, acted_of}
 use Rattle.machine.specs.Step.{running_of, awake_of, highest_of, interruptible_of, counted_of, step_of}
 use Rattle.machine.specs.declared.state.State.{State}
 use Rattle.machine.specs.declared.interrupt.Vector.{Vector}
-use Rattle.machine.specs.declared.step.Pending.{Pending}
 use Rattle.tell.specs.Fault.{raised_of}
 use Rattle.tell.specs.Uses.{fetched_use, executes, use_of}
 use Rattle.tell.specs.Told.{running_told, interruptible_told, told_of, vector_code}
-use Rattle.tell.specs.declared.fault.Raised.{Raised}
+use Rattle.machine.specs.declared.interrupt.Cause.{Cause}
 use Rattle.tell.specs.declared.told.Told.{Told}
 use Rattle.tell.specs.declared.uses.Use.{Use}
 use Rattle.promises.specs.Reach.{touched, span_of, spans_of, while_served, served_of, written_by, running_writes, writes_of, Misses}
@@ -34,25 +33,25 @@ use Rattle.promises.proofs.Faults.{running_faults}
 use Rattle.promises.proofs.Reaches.{writes_only}
 
 module _ (p : Profile) (s : State) (m : List ℕ) (e : ℕ) where
-  running_does : (r : Raised) → raised_of p (ticked_of s e) m ≡ r → Does p s m e (running_told r) (running_of p (ticked_of s e) m)
-  running_does Raised.Nothing q = (refl, q)
-  running_does (Raised.Raises c) q = running_faults p (ticked_of s e) m c q
+  running_does : (r : Option Cause) → raised_of p (ticked_of s e) m ≡ r → Does p s m e (running_told r) (running_of p (ticked_of s e) m)
+  running_does None q = (refl, q)
+  running_does (Some c) q = running_faults p (ticked_of s e) m c q
 
   awake_does : (w : Bool) → Does p s m e (pick w Told.Waits (running_told (raised_of p (ticked_of s e) m))) (pick w (plain (ticked_of s e) m) (running_of p (ticked_of s e) m))
   awake_does true = refl
   awake_does false = running_does (raised_of p (ticked_of s e) m) refl
 
-  interruptible_does : (k : Pending) → Does p s m e (interruptible_told p (ticked_of s e) m k) (interruptible_of p (ticked_of s e) m k)
+  interruptible_does : (k : Option Vector) → Does p s m e (interruptible_told p (ticked_of s e) m k) (interruptible_of p (ticked_of s e) m k)
   unfolding awake_of
-  interruptible_does (Pending.Take v) = refl
-  interruptible_does Pending.Nothing = awake_does (bit_at (ticked_of s e).msr 13)
+  interruptible_does (Some v) = refl
+  interruptible_does None = awake_does (bit_at (ticked_of s e).msr 13)
 
-  acts_does : (a : Bool) (k : Pending)
+  acts_does : (a : Bool) (k : Option Vector)
       → Does p s m e (pick a Told.Acts (interruptible_told p (ticked_of s e) m k)) (pick a (plain (acted_of (ticked_of s e)) m) (interruptible_of p (ticked_of s e) m k))
   acts_does true k = refl
   acts_does false k = interruptible_does k
 
-  halt_does : (h a : Bool) (k : Pending)
+  halt_does : (h a : Bool) (k : Option Vector)
       → Does p s m e (pick h (pick a Told.Acts (interruptible_told p (ticked_of s e) m k)) Told.Halted)
       (pick h (pick a (plain (acted_of (ticked_of s e)) m) (interruptible_of p (ticked_of s e) m k)) (plain s m))
   halt_does true a k = acts_does a k
@@ -64,7 +63,7 @@ module _ (p : Profile) (s : State) (m : List ℕ) (e : ℕ) where
   told_true = halt_does (eqb s.halt 0) (acts_of s e) (highest_of (ticked_of s e) e)
 
   -- what is written is what is told to be written
-  written_told : (b : Bool) (u : Use) → pick b (written_by m u) [] ≡ written_by m (pick b u Use.Idle)
+  written_told : (b : Bool) (u : Option Use) → pick b (written_by m u) [] ≡ written_by m (pick b u None)
   written_told true u = refl
   written_told false u = refl
 
@@ -73,9 +72,8 @@ module _ (p : Profile) (s : State) (m : List ℕ) (e : ℕ) where
   writes_told = written_told (executes s e) (fetched_use p (ticked_of s e) (fetch_of m (ticked_of s e).iar))
 
   misses_told : (i a n : ℕ) (k : Access) → (i < a) ⊎ (a + n ≤ i) → Misses i (touched k a n)
-  misses_told i a n Access.Served h = (h, tt)
-  misses_told i a n Access.Unaligned h = tt
-  misses_told i a n Access.Outside h = tt
+  misses_told i a n (Ok tt) h = (h, tt)
+  misses_told i a n (Err f) h = tt
 
   -- what is outside all accesses of a frame is outside those that were served
   misses_served : (i len : ℕ) (xs : List Part) → Misses i (spans_of xs) → Misses i (served_of len xs)
@@ -84,9 +82,8 @@ module _ (p : Profile) (s : State) (m : List ℕ) (e : ℕ) where
   misses_served i len (x ∷ xs) h = go (access_of len (address_of x) (size_of x)) (misses_served i len xs h.1)
     where
       go : (k : Access) → Misses i (served_of len xs) → Misses i (while_served k (span_of x) (served_of len xs))
-      go Access.Served q = (h.0, q)
-      go Access.Unaligned q = tt
-      go Access.Outside q = tt
+      go (Ok tt) q = (h.0, q)
+      go (Err f) q = tt
 
   misses_frame : (i len : ℕ) (b : Bool) (xs : List Part) → Misses i (spans_of xs) → Misses i (pick b (served_of len xs) [])
   misses_frame i len true xs h = misses_served i len xs h
@@ -95,12 +92,12 @@ module _ (p : Profile) (s : State) (m : List ℕ) (e : ℕ) where
   same : ((i : ℕ) → Misses i (writes_of p s m e)) → (step_of p s m e).mem ≡ m
   same h = ext_get_or 0 (step_of p s m e).mem m (step_length p s m e) (λ i l. writes_only p s m e i (h i))
 
-  spares_cases : (u : Use) → writes_of p s m e ≡ written_by m u → Spares m u (step_of p s m e).mem
-  spares_cases Use.Idle q = same (λ i. rw q tt)
-  spares_cases (Use.Reads a n) q = same (λ i. rw q tt)
-  spares_cases (Use.Writes a n) q = λ i h. writes_only p s m e i (rw q (misses_told i a n (access_of (length m) a n) h))
-  spares_cases (Use.Pops sp ea n) q = same (λ i. rw q tt)
-  spares_cases (Use.Pushes sp ea n) q = λ i h. writes_only p s m e i (rw q (misses_frame i (length m) (aligned_of sp 8) (parts_of StackOp.Stsku sp ea n) h))
+  spares_cases : (u : Option Use) → writes_of p s m e ≡ written_by m u → Spares m u (step_of p s m e).mem
+  spares_cases None q = same (λ i. rw q tt)
+  spares_cases (Some (Use.Reads a n)) q = same (λ i. rw q tt)
+  spares_cases (Some (Use.Writes a n)) q = λ i h. writes_only p s m e i (rw q (misses_told i a n (access_of (length m) a n) h))
+  spares_cases (Some (Use.Pops sp ea n)) q = same (λ i. rw q tt)
+  spares_cases (Some (Use.Pushes sp ea n)) q = λ i h. writes_only p s m e i (rw q (misses_frame i (length m) (aligned_of sp 8) (parts_of StackOp.Stsku sp ea n) h))
 
   -- a step changes no byte outside the access that is told, and none where that does not write
   pub use_true : Spares m (use_of p s m e) (step_of p s m e).mem
@@ -108,9 +105,9 @@ module _ (p : Profile) (s : State) (m : List ℕ) (e : ℕ) where
 
 -- ---- the interrupts that a step takes have codes of their own
 
-abbrev pub Asynchronous : Pending → Type 0
-Asynchronous (Pending.Take v) = 4 ≤ vector_code v
-Asynchronous Pending.Nothing = Unit {0}
+abbrev pub Asynchronous : Option Vector → Type 0
+Asynchronous (Some v) = 4 ≤ vector_code v
+Asynchronous None = Unit {0}
 
 abbrev Coded : Told → Type 0
 Coded Told.Halted = Unit {0}
@@ -129,13 +126,13 @@ highest_asynchronous s e =
     (picked Asynchronous (bit_at s.tcr 8 && bit_at s.tsr 5) (lit≤ tt) (picked Asynchronous (bit_at s.tcr 5 && bit_at s.tsr 4) (lit≤ tt) tt))))
     tt
 
-running_coded : (r : Raised) → Coded (running_told r)
-running_coded Raised.Nothing = tt
-running_coded (Raised.Raises c) = tt
+running_coded : (r : Option Cause) → Coded (running_told r)
+running_coded None = tt
+running_coded (Some c) = tt
 
-interruptible_coded : (p : Profile) (s : State) (m : List ℕ) (k : Pending) → Asynchronous k → Coded (interruptible_told p s m k)
-interruptible_coded p s m (Pending.Take v) h = h
-interruptible_coded p s m Pending.Nothing h = picked Coded (bit_at s.msr 13) tt (running_coded (raised_of p s m))
+interruptible_coded : (p : Profile) (s : State) (m : List ℕ) (k : Option Vector) → Asynchronous k → Coded (interruptible_told p s m k)
+interruptible_coded p s m (Some v) h = h
+interruptible_coded p s m None h = picked Coded (bit_at s.msr 13) tt (running_coded (raised_of p s m))
 
 told_coded : (p : Profile) (s : State) (m : List ℕ) (e : ℕ) → Coded (told_of p s m e)
 unfolding told_of

@@ -3,26 +3,27 @@ use Prim.Native.Nat.{ℕ, zero, suc, ◌-◌, ◌≤◌}
 use native.Mathlib.Omega.{arith}
 use native.Mathlib.Nat.{sub-zero}
 use mathlib.Core.Bool.{Bool, true, false}
-use mathlib.Core.Path.{◌≡◌, refl, sym}
+use mathlib.Core.Path.{◌≡◌, refl, sym, ap}
 use mathlib.Core.List.{List}
 use lib.Dec.{eqb, leb}
 use lib.ListN.{get_or, length}
 use borrow.Author.Tests.{leb-true, le-leb}
-use Rattle.word.proofs.Truth.{never}
+use Rattle.std.specs.Prelude.{Ok, is_ok}
+use Rattle.word.proofs.Truth.{never, and_left, and_right}
 use Rattle.memory.specs.Access.{pick}
 use Rattle.insn.specs.declared.profile.Profile.{Profile}
 use Rattle.machine.specs.After.{After}
 use Rattle.machine.specs.Step.{step_of}
-use Rattle.machine.specs.Refusal.{accepts_of, unless}
-use Rattle.machine.specs.Register.{start_refusal}
+use Rattle.machine.specs.Refusal.{unless}
+use Rattle.machine.specs.Register.{check_start}
 use Rattle.machine.specs.declared.state.State.{State}
 use Rattle.machine.specs.declared.refusal.Refusal.{Refusal}
-use Rattle.machine.proofs.Refusals.{or_accepts, unless_accepts}
+use Rattle.machine.proofs.Refusals.{accepts_ok, and_accepts, unless_accepts}
 use Rattle.run.specs.Run.{Ran, run_of}
-use Rattle.run.specs.Outcome.{events_refusal, run_refusal, run_outcome, run_memory}
+use Rattle.run.specs.Outcome.{state_left, steps_of, check_events, check_run, run_outcome, run_memory}
 use Rattle.until.specs.Until.{stop_at, until_of, until_outcome, until_memory}
 use Rattle.promises.specs.Stopped.{stopped_of, run_stopped}
-use Rattle.promises.proofs.Cut.{met_of, cut_of, cut_within, both_true, cut_is_run, cut_ends_first}
+use Rattle.promises.proofs.Cut.{met_of, cut_of, cut_within, cut_is_run, cut_ends_first}
 use Rattle.promises.proofs.Demands.{run_ends, used_budget}
 
 abbrev stopped : List ℕ → After → Bool
@@ -55,17 +56,17 @@ module _ (p : Profile) (stops : List ℕ) where
       (ends_at n (suc i) ev a.st a.mem)
 
 -- a budget that is no larger is refused no more
-smaller_budget : (p : Profile) (s : State) (m ev : List ℕ) (budget n : ℕ) → n ≤ budget → accepts_of (run_refusal p s m ev budget) ≡ true → run_refusal p s m ev n ≡ run_refusal p s m ev budget
-unfolding run_refusal
+smaller_budget : (p : Profile) (s : State) (m ev : List ℕ) (budget n : ℕ) → n ≤ budget → check_run p s m ev budget ≡ Ok tt → check_run p s m ev n ≡ check_run p s m ev budget
+unfolding check_run
 smaller_budget p s m ev budget n l h =
-    let a = or_accepts (unless (leb budget 1048576) Refusal.Budget) (events_refusal ev) (or_accepts (start_refusal p s (length m)) _ h).1 in
-    let b = leb-true budget 1048576 (unless_accepts (leb budget 1048576) Refusal.Budget refl a.0) in
+    let a = and_accepts (unless (leb budget 1048576) Refusal.Budget) (check_events ev) (and_accepts (check_start p s (length m)) _ (ap is_ok h)).1 in
+    let b = leb-true budget 1048576 (unless_accepts (leb budget 1048576) Refusal.Budget a.0) in
     rw (le-leb budget 1048576 b, le-leb n 1048576 (omega (arith, b, l)))
 
 module _ (p : Profile) (s : State) (m ev stops : List ℕ) (budget : ℕ) where
   -- accepted: outcome and memory are those of the run whose budget is the steps that it took
-  pub until_as_many : accepts_of (run_refusal p s m ev budget) ≡ true
-      → (let n = (until_outcome p s m ev stops budget).steps in (until_outcome p s m ev stops budget ≡ run_outcome p s m ev n) × (until_memory p s m ev stops budget ≡ run_memory p s m ev n))
+  pub until_as_many : check_run p s m ev budget ≡ Ok tt
+      → (let n = steps_of (until_outcome p s m ev stops budget) in (until_outcome p s m ev stops budget ≡ run_outcome p s m ev n) × (until_memory p s m ev stops budget ≡ run_memory p s m ev n))
   unfolding until_outcome until_memory run_outcome run_memory
   until_as_many h =
       let c = until_of p stops budget 0 ev s m in
@@ -80,14 +81,15 @@ module _ (p : Profile) (s : State) (m ev stops : List ℕ) (budget : ℕ) where
       → (until_outcome p s m ev stops budget ≡ run_outcome p s m ev budget) × (until_memory p s m ev stops budget ≡ run_memory p s m ev budget)
   unfolding run_stopped until_outcome until_memory run_outcome run_memory
   until_is_run h =
-      rw (until_cut p stops budget 0 ev s m) (cut_is_run p (stopped stops) (run_refusal p s m ev budget) s m ev budget (rw (stopped_met p stops budget 0 ev s m) at h))
+      rw (until_cut p stops budget 0 ev s m) (cut_is_run p (stopped stops) (check_run p s m ev budget) s m ev budget (rw (stopped_met p stops budget 0 ev s m) at h))
 
   -- one does: of the steps taken the last is the first that did, and IAR is at that stop
   pub until_ends_first : run_stopped p s m ev stops budget ≡ true
       → (let o = until_outcome p s m ev stops budget in
-      (stopped_of p stops (o.steps - 1) 0 ev s m ≡ false) × ((stopped_of p stops o.steps 0 ev s m ≡ true) × (stop_at stops o.state.iar ≡ true)))
+      (stopped_of p stops (steps_of o - 1) 0 ev s m ≡ false) × ((stopped_of p stops (steps_of o) 0 ev s m ≡ true) × (stop_at stops (state_left s o).iar ≡ true)))
   unfolding run_stopped until_outcome
   until_ends_first h =
-      let t = both_true (accepts_of (run_refusal p s m ev budget)) (stopped_of p stops budget 0 ev s m) h in
-      let f = cut_ends_first p (stopped stops) (run_refusal p s m ev budget) s m ev budget (rw (stopped_met p stops budget 0 ev s m) at h) in
-      (rw (until_cut p stops budget 0 ev s m, stopped_met) f.1.1.0, (rw (until_cut p stops budget 0 ev s m, stopped_met) f.1.1.1, rw t.0 (ends_at p stops budget 0 ev s m t.1)))
+      let a = accepts_ok (check_run p s m ev budget) (and_left (is_ok (check_run p s m ev budget)) (stopped_of p stops budget 0 ev s m) h) in
+      let t = and_right (is_ok (check_run p s m ev budget)) (stopped_of p stops budget 0 ev s m) h in
+      let f = cut_ends_first p (stopped stops) (check_run p s m ev budget) s m ev budget (rw (stopped_met p stops budget 0 ev s m) at h) in
+      (rw (until_cut p stops budget 0 ev s m, stopped_met) f.1.1.0, (rw (until_cut p stops budget 0 ev s m, stopped_met) f.1.1.1, rw a (ends_at p stops budget 0 ev s m t)))

@@ -1,5 +1,6 @@
 -- The scope's worked numbers, each played by one whole step on both cores, and its worked words, each read; and some of what the 42X adds.
 -- Assumes nothing.
+use Rattle.std.specs.Prelude.{Some, None, Option}
 use Prim.Native.Nat.{ℕ}
 use mathlib.Core.Bool.{false}
 use mathlib.Core.Path.{◌≡◌, refl}
@@ -18,7 +19,6 @@ use Rattle.insn.specs.Valid.{reg_of}
 use Rattle.insn.specs.Read.{decode_of, decode_on, primary, primary_rows, load_store, load_store_rows, added, added_rows, arithmetic, arithmetic_rows, logical, logical_rows, opcode4, rows4, opcode30, rows30}
 use Rattle.insn.specs.declared.profile.Profile.{Profile}
 use Rattle.insn.specs.declared.instr.Instr.{Instr}
-use Rattle.insn.specs.declared.instr.Decoded.{Decoded}
 use Rattle.insn.specs.declared.instr.Arithmetic.{Arithmetic}
 use Rattle.insn.specs.declared.instr.Logical.{Logical}
 use Rattle.insn.specs.declared.instr.LoadStore.{LoadStore}
@@ -51,16 +51,16 @@ pub data Row : Type 0 where
   reads : ℕ → Instr → Row
 
 -- r5 begins as 99990005, which no row writes
-abbrev pub computed : Profile → Row → After ⊎ Decoded
+abbrev pub computed : Profile → Row → After ⊎ Option Instr
 computed p (step word r3 r4 xer r5 cr xer') = inl (step_of p (state_of 1 0 r3 r4 0x9999_0005 0 xer) (memory_of word) 0)
 computed p (pair word r3 r4 r3' r4' cr) = inl (step_of p (state_of 1 0 r3 r4 0x9999_0005 0 0) (memory_of word) 0)
 computed p (reads word i) = inr (decode_on p word)
 
 -- DEC has counted, IAR is at the next word, and all that a row does not name is as it was
-abbrev pub printed : Row → After ⊎ Decoded
+abbrev pub printed : Row → After ⊎ Option Instr
 printed (step word r3 r4 xer r5 cr xer') = inl (plain (state_of 0 4 r3 r4 r5 cr xer') (memory_of word))
 printed (pair word r3 r4 r3' r4' cr) = inl (plain (state_of 0 4 r3' r4' 0x9999_0005 cr 0) (memory_of word))
-printed (reads word i) = inr (Decoded.Insn i)
+printed (reads word i) = inr (Some i)
 
 abbrev pub rows : List Row
 rows =
@@ -111,6 +111,6 @@ rows_hold Profile.Ppe42 = refl
 rows_hold Profile.Ppe42x = refl
 
 -- and on the 42 the words of the added ones are illegal
-pub added_illegal : map (decode_on Profile.Ppe42) (0x1CA3_FFFD ∷ 0x7CA3_25D6 ∷ 0x7863_4401 ∷ []) ≡ replicate 3 Decoded.Illegal
+pub added_illegal : map (decode_on Profile.Ppe42) (0x1CA3_FFFD ∷ 0x7CA3_25D6 ∷ 0x7863_4401 ∷ []) ≡ replicate 3 None
 unfolding decode_on decode_of fields_of reg_of primary primary_rows load_store load_store_rows added added_rows arithmetic arithmetic_rows opcode30 rows30
 added_illegal = refl

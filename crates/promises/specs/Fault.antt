@@ -1,13 +1,10 @@
 -- What a fault leaves, and what an interrupt may change (4.5.3, 4.5.4, 4.5.6, 4.5.7, 7.5.1).
-use Rattle.std.specs.Prelude.{ℕ, ◌<◌, Bool, true, false, List, [], ◌∷◌, ◌≡◌, ◌⊎◌, length}
-use Rattle.memory.specs.Access.{pick, aligned_of, access_of}
-use Rattle.memory.specs.Load.{fetch_of}
-use Rattle.memory.specs.declared.access.Access.{Access}
-use Rattle.memory.specs.declared.load.Loaded.{Loaded}
+use Rattle.std.specs.Prelude.{ℕ, ◌<◌, Bool, true, false, List, [], ◌∷◌, ◌≡◌, ◌⊎◌, length, Some, None, Option, Ok, Err}
+use Rattle.memory.specs.Access.{Access, pick, aligned_of, access_of}
+use Rattle.memory.specs.Load.{Loaded, fetch_of}
 use Rattle.insn.specs.Valid.{reg_of}
 use Rattle.insn.specs.Read.{decode_on}
 use Rattle.insn.specs.declared.instr.Instr.{Instr}
-use Rattle.insn.specs.declared.instr.Decoded.{Decoded}
 use Rattle.insn.specs.declared.instr.StackOp.{StackOp}
 use Rattle.insn.specs.declared.profile.Profile.{Profile}
 use Rattle.machine.specs.State.{gpr_of, contents_of}
@@ -24,9 +21,8 @@ faulted p s m c a = (a.st ≡ interrupted_of p s c) × (a.mem ≡ m)
 
 -- what a frame has done before its first access that is not served
 abbrev pub when_served : Access → After → After → After
-when_served Access.Served done left = done
-when_served Access.Unaligned done left = left
-when_served Access.Outside done left = left
+when_served (Ok tt) done left = done
+when_served (Err f) done left = left
 
 unfoldable pub framed_before : StackOp → ℕ → List Part → State → List ℕ → After
 framed_before op ra [] s m = plain s m
@@ -51,14 +47,13 @@ execute_before s m (Instr.Trap to ra rb tg) = plain s m
 execute_before s m (Instr.System i) = plain s m
 execute_before s m (Instr.Cache op hint ra rb) = plain s m
 
-abbrev pub decoded_before : State → List ℕ → Decoded → After
-decoded_before s m (Decoded.Insn i) = execute_before s m i
-decoded_before s m Decoded.Illegal = plain s m
+abbrev pub decoded_before : State → List ℕ → Option Instr → After
+decoded_before s m (Some i) = execute_before s m i
+decoded_before s m None = plain s m
 
 abbrev pub fetched_before : Profile → State → List ℕ → Loaded → After
-fetched_before p s m (Loaded.Value w) = decoded_before s m (decode_on p w)
-fetched_before p s m Loaded.Unaligned = plain s m
-fetched_before p s m Loaded.Outside = plain s m
+fetched_before p s m (Ok w) = decoded_before s m (decode_on p w)
+fetched_before p s m (Err f) = plain s m
 
 unfoldable pub running_before : Profile → State → List ℕ → After
 running_before p s m = fetched_before p s m (fetch_of m s.iar)

@@ -1,8 +1,7 @@
 -- What a step reads and writes: the bytes of lent memory that its fetch and its data access, or those of its stack frame, touch.
-use Rattle.std.specs.Prelude.{ℕ, ◌+◌, ◌<◌, ◌≤◌, List, [], ◌∷◌, ◌++◌, ◌≡◌, ◌⊎◌, length, get_or}
-use Rattle.memory.specs.Access.{pick, aligned_of, access_of, fetch_access_of}
+use Rattle.std.specs.Prelude.{ℕ, ◌+◌, ◌<◌, ◌≤◌, List, [], ◌∷◌, ◌++◌, ◌≡◌, ◌⊎◌, length, get_or, None, Ok, Err, Some, Option}
+use Rattle.memory.specs.Access.{Access, pick, aligned_of, access_of, fetch_access_of}
 use Rattle.memory.specs.Load.{fetch_of}
-use Rattle.memory.specs.declared.access.Access.{Access}
 use Rattle.insn.specs.declared.instr.StackOp.{StackOp}
 use Rattle.insn.specs.declared.profile.Profile.{Profile}
 use Rattle.machine.specs.After.{After}
@@ -19,9 +18,8 @@ pub record Span : Type 0 where
 
 -- an access that is not served touches nothing
 abbrev pub touched : Access → ℕ → ℕ → List Span
-touched Access.Served a n = record { at = a; size = n } ∷ []
-touched Access.Unaligned a n = []
-touched Access.Outside a n = []
+touched (Ok tt) a n = record { at = a; size = n } ∷ []
+touched (Err f) a n = []
 
 abbrev pub touched_at : List ℕ → ℕ → ℕ → List Span
 touched_at m a n = touched (access_of (length m) a n) a n
@@ -38,9 +36,8 @@ spans_of [] = []
 spans_of (x ∷ xs) = span_of x ∷ spans_of xs
 
 abbrev pub while_served : Access → Span → List Span → List Span
-while_served Access.Served x xs = x ∷ xs
-while_served Access.Unaligned x xs = []
-while_served Access.Outside x xs = []
+while_served (Ok tt) x xs = x ∷ xs
+while_served (Err f) x xs = []
 
 unfoldable pub served_of : ℕ → List Part → List Span
 served_of len [] = []
@@ -50,19 +47,19 @@ served_of len (x ∷ xs) = while_served (access_of len (address_of x) (size_of x
 abbrev pub frame_spans : ℕ → StackOp → ℕ → ℕ → ℕ → List Span
 frame_spans len op sp ea n = pick (aligned_of sp 8) (served_of len (parts_of op sp ea n)) []
 
-abbrev pub read_by : List ℕ → Use → List Span
-read_by m Use.Idle = []
-read_by m (Use.Reads a n) = touched_at m a n
-read_by m (Use.Writes a n) = []
-read_by m (Use.Pops sp ea n) = frame_spans (length m) StackOp.Lsku sp ea n
-read_by m (Use.Pushes sp ea n) = []
+abbrev pub read_by : List ℕ → Option Use → List Span
+read_by m None = []
+read_by m (Some (Use.Reads a n)) = touched_at m a n
+read_by m (Some (Use.Writes a n)) = []
+read_by m (Some (Use.Pops sp ea n)) = frame_spans (length m) StackOp.Lsku sp ea n
+read_by m (Some (Use.Pushes sp ea n)) = []
 
-abbrev pub written_by : List ℕ → Use → List Span
-written_by m Use.Idle = []
-written_by m (Use.Reads a n) = []
-written_by m (Use.Writes a n) = touched_at m a n
-written_by m (Use.Pops sp ea n) = []
-written_by m (Use.Pushes sp ea n) = frame_spans (length m) StackOp.Stsku sp ea n
+abbrev pub written_by : List ℕ → Option Use → List Span
+written_by m None = []
+written_by m (Some (Use.Reads a n)) = []
+written_by m (Some (Use.Writes a n)) = touched_at m a n
+written_by m (Some (Use.Pops sp ea n)) = []
+written_by m (Some (Use.Pushes sp ea n)) = frame_spans (length m) StackOp.Stsku sp ea n
 
 -- line 6: the fetch, then what the instruction reads
 unfoldable pub running_reads : Profile → State → List ℕ → List Span

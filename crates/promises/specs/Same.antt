@@ -1,13 +1,11 @@
 -- Where a run of the 42 can part from the run of the 42X: what its steps meet, and the bits that they write (C-16).
-use Rattle.std.specs.Prelude.{ℕ, zero, suc, Bool, true, false, not, ◌&&◌, ◌||◌, List, ◌≡◌, eqb, get_or}
+use Rattle.std.specs.Prelude.{ℕ, zero, suc, Bool, true, false, not, ◌&&◌, ◌||◌, List, ◌≡◌, eqb, get_or, Some, None, Option, Ok, Err}
 use Rattle.std.specs.Int.Bits.{bit_and, bit_xor}
 use Rattle.word.specs.Bits.{bit_at}
-use Rattle.memory.specs.Load.{fetch_of}
-use Rattle.memory.specs.declared.load.Loaded.{Loaded}
+use Rattle.memory.specs.Load.{Loaded, fetch_of}
 use Rattle.insn.specs.Read.{decode_on}
 use Rattle.insn.specs.declared.profile.Profile.{Profile}
 use Rattle.insn.specs.declared.instr.Instr.{Instr}
-use Rattle.insn.specs.declared.instr.Decoded.{Decoded}
 use Rattle.insn.specs.declared.instr.System.{System}
 use Rattle.insn.specs.declared.instr.SprOp.{SprOp}
 use Rattle.machine.specs.State.{gpr_of}
@@ -17,20 +15,19 @@ use Rattle.machine.specs.Timer.{ticked_of}
 use Rattle.machine.specs.Step.{step_of}
 use Rattle.machine.specs.declared.state.State.{State}
 use Rattle.machine.specs.declared.state.Reg.{Reg}
-use Rattle.machine.specs.declared.refusal.Refusal.{Refusal}
 use Rattle.tell.specs.Fault.{raised_of}
 use Rattle.tell.specs.Uses.{executes}
-use Rattle.tell.specs.declared.fault.Raised.{Raised}
-use Rattle.run.specs.Outcome.{run_refusal, run_outcome}
+use Rattle.machine.specs.declared.interrupt.Cause.{Cause}
+use Rattle.run.specs.Outcome.{check_run, run_outcome}
 
 -- the bits of a register that only one profile defines
 abbrev pub unshared : Reg → ℕ
 unshared r = bit_xor (defined_of Profile.Ppe42 r) (defined_of Profile.Ppe42x r)
 
 -- no instruction of the 42
-abbrev pub is_illegal : Decoded → Bool
-is_illegal (Decoded.Insn i) = false
-is_illegal Decoded.Illegal = true
+abbrev pub is_illegal : Option Instr → Bool
+is_illegal (Some i) = false
+is_illegal None = true
 
 -- a tw with TG set
 abbrev pub sets_tg : Instr → Bool
@@ -70,19 +67,18 @@ instr_writes s (Instr.System i) = system_writes s i
 instr_writes s (Instr.Cache op hint ra rb) = false
 
 -- asked of an instruction of the 42
-abbrev pub of_instr : (Instr → Bool) → Decoded → Bool
-of_instr f (Decoded.Insn i) = f i
-of_instr f Decoded.Illegal = false
+abbrev pub of_instr : (Instr → Bool) → Option Instr → Bool
+of_instr f (Some i) = f i
+of_instr f None = false
 
 -- asked of the word that was fetched, as the 42 reads it; no word is fetched where the fetch is not served
-abbrev pub of_word : (Decoded → Bool) → Loaded → Bool
-of_word f (Loaded.Value w) = f (decode_on Profile.Ppe42 w)
-of_word f Loaded.Unaligned = false
-of_word f Loaded.Outside = false
+abbrev pub of_word : (Option Instr → Bool) → Loaded → Bool
+of_word f (Ok w) = f (decode_on Profile.Ppe42 w)
+of_word f (Err fault) = false
 
-abbrev pub raises : Raised → Bool
-raises Raised.Nothing = false
-raises (Raised.Raises c) = true
+abbrev pub raises : Option Cause → Bool
+raises None = false
+raises (Some c) = true
 
 -- MSR[UIE] (15) is 0 and MSR[ME] (19) is 1: a synchronous interrupt becomes a machine check. With both 0 the core halts, at the same vector on both
 abbrev pub promotes : State → Bool
@@ -117,7 +113,7 @@ pub record Common (n i : ℕ) (ev : List ℕ) (s : State) (m : List ℕ) : Type 
 
 -- a run that both profiles accept and that meets no illegal word and no machine check and writes no such bit, and that is not the same on both
 pub record Parts (s : State) (m ev : List ℕ) (budget : ℕ) : Type 0 where
-  pub accepted : (p : Profile) → run_refusal p s m ev budget ≡ Refusal.None
+  pub accepted : (p : Profile) → check_run p s m ev budget ≡ Ok tt
   pub no_illegal : some_step meets_illegal budget 0 ev s m ≡ false
   pub no_check : some_step meets_check budget 0 ev s m ≡ false
   pub no_write : some_step writes_unshared budget 0 ev s m ≡ false

@@ -1,9 +1,9 @@
 -- The form of an instruction, and the instruction that a word of a form is. The operands stay in the word. This serves code alone.
-use Rattle.std.specs.Prelude.{true, false}
+use Rattle.std.specs.Prelude.{true, false, Option, Some, None, Result, Ok, Err}
 use Rattle.insn.specs.Read.{arith_imm_at, arith_at, arith_one_at, multiply_at, multiply_imm_at, multiply_low_at, logic_imm_at, logic_at, logic_one_at, compare_imm_at, compare_at, rotate_imm_at, rotate_at, shift_at, srawi_at, rotate_double_at, load_at, load_indexed_at, store_at, store_indexed_at, load_double_at, store_double_at, stack_at, branch_at, branch_if_at, branch_to_at, trap_at, move_spr_at, move_reg_at, wrteei_at, rfi_at, sync_at, cache_at}
+use Rattle.memory.specs.declared.access.Fault.{Fault}
 use Rattle.insn.specs.declared.fields.Fields.{Fields}
 use Rattle.insn.specs.declared.instr.Instr.{Instr}
-use Rattle.insn.specs.declared.instr.Decoded.{Decoded}
 use Rattle.insn.specs.declared.instr.Arithmetic.{Arithmetic}
 use Rattle.insn.specs.declared.instr.Logical.{Logical}
 use Rattle.insn.specs.declared.instr.Compare.{Compare}
@@ -73,51 +73,49 @@ form_of (Instr.Trap to ra rb tg) = Form.Trap
 form_of (Instr.System i) = system_form i
 form_of (Instr.Cache op hint ra rb) = Form.Cache op
 
--- what a fetch found: no word, or one that reads as this
-pub data Found : Type 0 where
-  unaligned : Found
-  outside : Found
-  decoded : Decoded → Found
+-- what a fetch found: no word, or what it reads as
+abbrev pub Found : Type 0
+Found = Result (Option Instr) Fault
 
 -- a form with a word's parts
 unfoldable pub made_of : Form → Fields → Found
-made_of Form.Unaligned f = unaligned
-made_of Form.Outside f = outside
-made_of Form.Illegal f = decoded Decoded.Illegal
-made_of (Form.ArithImm op) f = decoded (Decoded.Insn (arith_imm_at op f))
-made_of (Form.Arith op) f = decoded (Decoded.Insn (arith_at op f))
-made_of (Form.ArithOne op) f = decoded (Decoded.Insn (arith_one_at op f))
-made_of (Form.Multiply sign) f = decoded (Decoded.Insn (multiply_at sign f))
-made_of Form.MultiplyImm f = decoded (Decoded.Insn (multiply_imm_at f))
-made_of Form.MultiplyLow f = decoded (Decoded.Insn (multiply_low_at f))
-made_of (Form.LogicImm op) f = decoded (Decoded.Insn (logic_imm_at op f))
-made_of (Form.Logic op) f = decoded (Decoded.Insn (logic_at op f))
-made_of (Form.LogicOne op) f = decoded (Decoded.Insn (logic_one_at op f))
-made_of (Form.CompareImm sign) f = decoded (Decoded.Insn (compare_imm_at sign f))
-made_of (Form.Compare sign) f = decoded (Decoded.Insn (compare_at sign f))
-made_of (Form.RotateImm op) f = decoded (Decoded.Insn (rotate_imm_at op f))
-made_of Form.Rotate f = decoded (Decoded.Insn (rotate_at f))
-made_of (Form.Shift op) f = decoded (Decoded.Insn (shift_at op f))
-made_of Form.Srawi f = decoded (Decoded.Insn (srawi_at f))
-made_of (Form.RotateDouble op) f = decoded (Decoded.Insn (rotate_double_at op f))
-made_of (Form.Load w) f = decoded (Decoded.Insn (load_at w false f))
-made_of (Form.LoadUpdate w) f = decoded (Decoded.Insn (load_at w true f))
-made_of (Form.LoadIndexed w) f = decoded (Decoded.Insn (load_indexed_at w f))
-made_of (Form.Store w) f = decoded (Decoded.Insn (store_at w false f))
-made_of (Form.StoreUpdate w) f = decoded (Decoded.Insn (store_at w true f))
-made_of (Form.StoreIndexed w) f = decoded (Decoded.Insn (store_indexed_at w f))
-made_of Form.LoadDouble f = decoded (Decoded.Insn (load_double_at false f))
-made_of Form.LoadDoubleUpdate f = decoded (Decoded.Insn (load_double_at true f))
-made_of Form.StoreDouble f = decoded (Decoded.Insn (store_double_at false f))
-made_of Form.StoreDoubleUpdate f = decoded (Decoded.Insn (store_double_at true f))
-made_of (Form.Stack op) f = decoded (Decoded.Insn (stack_at op f))
-made_of Form.Branch f = decoded (Decoded.Insn (branch_at f))
-made_of Form.BranchIf f = decoded (Decoded.Insn (branch_if_at f))
-made_of (Form.BranchTo op) f = decoded (Decoded.Insn (branch_to_at op f))
-made_of Form.Trap f = decoded (Decoded.Insn (trap_at f))
-made_of (Form.MoveSpr op) f = decoded (Decoded.Insn (move_spr_at op f))
-made_of (Form.MoveReg op) f = decoded (Decoded.Insn (move_reg_at op f))
-made_of Form.Wrteei f = decoded (Decoded.Insn (wrteei_at f))
-made_of Form.Rfi f = decoded (Decoded.Insn (rfi_at f))
-made_of Form.Sync f = decoded (Decoded.Insn (sync_at f))
-made_of (Form.Cache op) f = decoded (Decoded.Insn (cache_at op f))
+made_of Form.Unaligned f = Err Fault.Unaligned
+made_of Form.Outside f = Err Fault.Outside
+made_of Form.Illegal f = Ok None
+made_of (Form.ArithImm op) f = Ok (Some (arith_imm_at op f))
+made_of (Form.Arith op) f = Ok (Some (arith_at op f))
+made_of (Form.ArithOne op) f = Ok (Some (arith_one_at op f))
+made_of (Form.Multiply sign) f = Ok (Some (multiply_at sign f))
+made_of Form.MultiplyImm f = Ok (Some (multiply_imm_at f))
+made_of Form.MultiplyLow f = Ok (Some (multiply_low_at f))
+made_of (Form.LogicImm op) f = Ok (Some (logic_imm_at op f))
+made_of (Form.Logic op) f = Ok (Some (logic_at op f))
+made_of (Form.LogicOne op) f = Ok (Some (logic_one_at op f))
+made_of (Form.CompareImm sign) f = Ok (Some (compare_imm_at sign f))
+made_of (Form.Compare sign) f = Ok (Some (compare_at sign f))
+made_of (Form.RotateImm op) f = Ok (Some (rotate_imm_at op f))
+made_of Form.Rotate f = Ok (Some (rotate_at f))
+made_of (Form.Shift op) f = Ok (Some (shift_at op f))
+made_of Form.Srawi f = Ok (Some (srawi_at f))
+made_of (Form.RotateDouble op) f = Ok (Some (rotate_double_at op f))
+made_of (Form.Load w) f = Ok (Some (load_at w false f))
+made_of (Form.LoadUpdate w) f = Ok (Some (load_at w true f))
+made_of (Form.LoadIndexed w) f = Ok (Some (load_indexed_at w f))
+made_of (Form.Store w) f = Ok (Some (store_at w false f))
+made_of (Form.StoreUpdate w) f = Ok (Some (store_at w true f))
+made_of (Form.StoreIndexed w) f = Ok (Some (store_indexed_at w f))
+made_of Form.LoadDouble f = Ok (Some (load_double_at false f))
+made_of Form.LoadDoubleUpdate f = Ok (Some (load_double_at true f))
+made_of Form.StoreDouble f = Ok (Some (store_double_at false f))
+made_of Form.StoreDoubleUpdate f = Ok (Some (store_double_at true f))
+made_of (Form.Stack op) f = Ok (Some (stack_at op f))
+made_of Form.Branch f = Ok (Some (branch_at f))
+made_of Form.BranchIf f = Ok (Some (branch_if_at f))
+made_of (Form.BranchTo op) f = Ok (Some (branch_to_at op f))
+made_of Form.Trap f = Ok (Some (trap_at f))
+made_of (Form.MoveSpr op) f = Ok (Some (move_spr_at op f))
+made_of (Form.MoveReg op) f = Ok (Some (move_reg_at op f))
+made_of Form.Wrteei f = Ok (Some (wrteei_at f))
+made_of Form.Rfi f = Ok (Some (rfi_at f))
+made_of Form.Sync f = Ok (Some (sync_at f))
+made_of (Form.Cache op) f = Ok (Some (cache_at op f))

@@ -8,7 +8,8 @@ use word::width::Width;
 
 #[derive(Clone, Copy)]
 pub enum Form {
-    // no word: its address is not a multiple of 4, or past memory
+    // no word: its address is not a multiple of 4, or past memory. These and Illegal stand among the forms, since what carries them out
+    // (perform/src/perform.rt) asks once for all; a Result of an Option would be asked three times
     Unaligned,
     Outside,
     Illegal,
@@ -55,46 +56,12 @@ fn arithmetic_form(i: Arithmetic) -> Form
     ensures { result ≡ arithmetic_form i }
 {
     match i {
-        Arithmetic::Immediate {
-            op,
-            rt: _,
-            ra: _,
-            si: _,
-        } => Form::ArithImm(op),
-        Arithmetic::Register {
-            op,
-            rt: _,
-            ra: _,
-            rb: _,
-            oe: _,
-            rc: _,
-        } => Form::Arith(op),
-        Arithmetic::One {
-            op,
-            rt: _,
-            ra: _,
-            oe: _,
-            rc: _,
-        } => Form::ArithOne(op),
-        Arithmetic::Multiply {
-            sign,
-            rt: _,
-            ra: _,
-            rb: _,
-            rc: _,
-        } => Form::Multiply(sign),
-        Arithmetic::MultiplyImm {
-            rt: _,
-            ra: _,
-            si: _,
-        } => Form::MultiplyImm,
-        Arithmetic::MultiplyLow {
-            rt: _,
-            ra: _,
-            rb: _,
-            oe: _,
-            rc: _,
-        } => Form::MultiplyLow,
+        Arithmetic::Immediate { op, .. } => Form::ArithImm(op),
+        Arithmetic::Register { op, .. } => Form::Arith(op),
+        Arithmetic::One { op, .. } => Form::ArithOne(op),
+        Arithmetic::Multiply { sign, .. } => Form::Multiply(sign),
+        Arithmetic::MultiplyImm { .. } => Form::MultiplyImm,
+        Arithmetic::MultiplyLow { .. } => Form::MultiplyLow,
     }
 }
 
@@ -102,25 +69,9 @@ fn logical_form(i: Logical) -> Form
     ensures { result ≡ logical_form i }
 {
     match i {
-        Logical::Immediate {
-            op,
-            rs: _,
-            ra: _,
-            ui: _,
-        } => Form::LogicImm(op),
-        Logical::Register {
-            op,
-            rs: _,
-            ra: _,
-            rb: _,
-            rc: _,
-        } => Form::Logic(op),
-        Logical::One {
-            op,
-            rs: _,
-            ra: _,
-            rc: _,
-        } => Form::LogicOne(op),
+        Logical::Immediate { op, .. } => Form::LogicImm(op),
+        Logical::Register { op, .. } => Form::Logic(op),
+        Logical::One { op, .. } => Form::LogicOne(op),
     }
 }
 
@@ -128,12 +79,8 @@ fn compare_form(i: Compare) -> Form
     ensures { result ≡ compare_form i }
 {
     match i {
-        Compare::Immediate {
-            sign,
-            ra: _,
-            imm: _,
-        } => Form::CompareImm(sign),
-        Compare::Register { sign, ra: _, rb: _ } => Form::Compare(sign),
+        Compare::Immediate { sign, .. } => Form::CompareImm(sign),
+        Compare::Register { sign, .. } => Form::Compare(sign),
     }
 }
 
@@ -141,44 +88,11 @@ fn rotate_form(i: Rotate) -> Form
     ensures { result ≡ rotate_form i }
 {
     match i {
-        Rotate::Immediate {
-            op,
-            rs: _,
-            ra: _,
-            sh: _,
-            mb: _,
-            me: _,
-            rc: _,
-        } => Form::RotateImm(op),
-        Rotate::Register {
-            rs: _,
-            ra: _,
-            rb: _,
-            mb: _,
-            me: _,
-            rc: _,
-        } => Form::Rotate,
-        Rotate::Shift {
-            op,
-            rs: _,
-            ra: _,
-            rb: _,
-            rc: _,
-        } => Form::Shift(op),
-        Rotate::Srawi {
-            rs: _,
-            ra: _,
-            sh: _,
-            rc: _,
-        } => Form::Srawi,
-        Rotate::Double {
-            op,
-            ds: _,
-            da: _,
-            sh: _,
-            mb: _,
-            rc: _,
-        } => Form::RotateDouble(op),
+        Rotate::Immediate { op, .. } => Form::RotateImm(op),
+        Rotate::Register { .. } => Form::Rotate,
+        Rotate::Shift { op, .. } => Form::Shift(op),
+        Rotate::Srawi { .. } => Form::Srawi,
+        Rotate::Double { op, .. } => Form::RotateDouble(op),
     }
 }
 
@@ -188,66 +102,30 @@ fn load_store_form(i: LoadStore) -> Form
     match i {
         LoadStore::Load {
             width,
-            update,
-            rt: _,
-            ra: _,
-            d: _,
-        } => {
-            if update {
-                Form::LoadUpdate(width)
-            } else {
-                Form::Load(width)
-            }
-        }
-        LoadStore::LoadIndexed {
+            update: false,
+            ..
+        } => Form::Load(width),
+        LoadStore::Load {
             width,
-            rt: _,
-            ra: _,
-            rb: _,
-        } => Form::LoadIndexed(width),
+            update: true,
+            ..
+        } => Form::LoadUpdate(width),
+        LoadStore::LoadIndexed { width, .. } => Form::LoadIndexed(width),
         LoadStore::Store {
             width,
-            update,
-            rs: _,
-            ra: _,
-            d: _,
-        } => {
-            if update {
-                Form::StoreUpdate(width)
-            } else {
-                Form::Store(width)
-            }
-        }
-        LoadStore::StoreIndexed {
+            update: false,
+            ..
+        } => Form::Store(width),
+        LoadStore::Store {
             width,
-            rs: _,
-            ra: _,
-            rb: _,
-        } => Form::StoreIndexed(width),
-        LoadStore::LoadDouble {
-            update,
-            dt: _,
-            ra: _,
-            d: _,
-        } => {
-            if update {
-                Form::LoadDoubleUpdate
-            } else {
-                Form::LoadDouble
-            }
-        }
-        LoadStore::StoreDouble {
-            update,
-            ds: _,
-            ra: _,
-            d: _,
-        } => {
-            if update {
-                Form::StoreDoubleUpdate
-            } else {
-                Form::StoreDouble
-            }
-        }
+            update: true,
+            ..
+        } => Form::StoreUpdate(width),
+        LoadStore::StoreIndexed { width, .. } => Form::StoreIndexed(width),
+        LoadStore::LoadDouble { update: false, .. } => Form::LoadDouble,
+        LoadStore::LoadDouble { update: true, .. } => Form::LoadDoubleUpdate,
+        LoadStore::StoreDouble { update: false, .. } => Form::StoreDouble,
+        LoadStore::StoreDouble { update: true, .. } => Form::StoreDoubleUpdate,
     }
 }
 
@@ -255,25 +133,9 @@ fn branch_form(i: Branch) -> Form
     ensures { result ≡ branch_form i }
 {
     match i {
-        Branch::Always {
-            aa: _,
-            lk: _,
-            li: _,
-        } => Form::Branch,
-        Branch::Conditional {
-            bo: _,
-            bi: _,
-            bd: _,
-            aa: _,
-            lk: _,
-        } => Form::BranchIf,
-        Branch::Register {
-            op,
-            bo: _,
-            bi: _,
-            bh: _,
-            lk: _,
-        } => Form::BranchTo(op),
+        Branch::Always { .. } => Form::Branch,
+        Branch::Conditional { .. } => Form::BranchIf,
+        Branch::Register { op, .. } => Form::BranchTo(op),
     }
 }
 
@@ -281,42 +143,30 @@ fn system_form(i: System) -> Form
     ensures { result ≡ system_form i }
 {
     match i {
-        System::Spr { op, rt: _, spr: _ } => Form::MoveSpr(op),
-        System::Move { op, rt: _ } => Form::MoveReg(op),
-        System::Wrteei { e: _ } => Form::Wrteei,
+        System::Spr { op, .. } => Form::MoveSpr(op),
+        System::Move { op, .. } => Form::MoveReg(op),
+        System::Wrteei { .. } => Form::Wrteei,
         System::Rfi => Form::Rfi,
         System::Sync => Form::Sync,
     }
 }
 
-pub fn form_of(i: Instr) -> Form
-    ensures { result ≡ form_of i }
-{
-    match i {
-        Instr::Arithmetic(i) => arithmetic_form(i),
-        Instr::Logical(i) => logical_form(i),
-        Instr::Compare(i) => compare_form(i),
-        Instr::Rotate(i) => rotate_form(i),
-        Instr::LoadStore(i) => load_store_form(i),
-        Instr::Stack {
-            op,
-            rt: _,
-            ra: _,
-            dd: _,
-        } => Form::Stack(op),
-        Instr::Branch(i) => branch_form(i),
-        Instr::Trap {
-            to: _,
-            ra: _,
-            rb: _,
-            tg: _,
-        } => Form::Trap,
-        Instr::System(i) => system_form(i),
-        Instr::Cache {
-            op,
-            hint: _,
-            ra: _,
-            rb: _,
-        } => Form::Cache(op),
+impl From<Instr> for Form {
+    ghost from_gives = { λ i form. form ≡ form_of i };
+
+    #[tactic(auto, unfolding(crate::specs::Form::form_of))]
+    fn from(i: Instr) -> Form {
+        match i {
+            Instr::Arithmetic(i) => arithmetic_form(i),
+            Instr::Logical(i) => logical_form(i),
+            Instr::Compare(i) => compare_form(i),
+            Instr::Rotate(i) => rotate_form(i),
+            Instr::LoadStore(i) => load_store_form(i),
+            Instr::Stack { op, .. } => Form::Stack(op),
+            Instr::Branch(i) => branch_form(i),
+            Instr::Trap { .. } => Form::Trap,
+            Instr::System(i) => system_form(i),
+            Instr::Cache { op, .. } => Form::Cache(op),
+        }
     }
 }

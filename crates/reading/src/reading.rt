@@ -2,11 +2,11 @@
 ghost use Rattle.std.specs.Prelude.{◌≡◌};
 ghost use Rattle.reading.specs.Reading.{read_of, reading_of};
 
-use crate::form::{Form, form_of};
-use insn::instr::Decoded;
+use crate::form::Form;
 use insn::profile::Profile;
 use insn::read::read;
-use memory::load::{Loaded, fetch};
+use memory::access::Fault;
+use memory::load::fetch;
 
 #[derive(Clone, Copy)]
 pub struct Reading {
@@ -17,31 +17,22 @@ pub struct Reading {
 fn read_of(profile: Profile, word: u32) -> Reading
     ensures { result ≡ read_of profile word }
 {
-    let what = read(profile, word);
-    match what {
-        Decoded::Insn(i) => Reading {
-            word,
-            form: form_of(i),
-        },
-        Decoded::Illegal => Reading {
-            word,
-            form: Form::Illegal,
-        },
-    }
+    let form = read(profile, word).map_or(Form::Illegal, Form::from);
+    Reading { word, form }
 }
 
 // What is fetched and read at an address.
+#[tactic(auto, unfolding(crate::specs::Reading::reading_of))]
 pub fn reading_at(profile: Profile, mem: &[u8], at: u32) -> Reading
     ensures { result ≡ reading_of profile mem.now at }
 {
-    let got = fetch(mem, at);
-    match got {
-        Loaded::Value(word) => read_of(profile, word),
-        Loaded::Unaligned => Reading {
+    match fetch(mem, at) {
+        Ok(word) => read_of(profile, word),
+        Err(Fault::Unaligned) => Reading {
             word: 0,
             form: Form::Unaligned,
         },
-        Loaded::Outside => Reading {
+        Err(Fault::Outside) => Reading {
             word: 0,
             form: Form::Outside,
         },

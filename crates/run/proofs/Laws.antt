@@ -1,24 +1,21 @@
--- Laws of the run and of its reach, one step on and at the ends, of the event list, one byte on, of a step that is refused and of a run that is not. Assumes nothing.
+-- Laws of the run and of its reach, one step on and at the ends, and of a run that is accepted. Assumes nothing.
 use Prim.Native.Nat.{ℕ, zero, suc, ◌+◌, ◌-◌, ◌≤◌, ◌<◌}
 use native.Mathlib.Omega.{arith}
 use native.Mathlib.Numerals.{add-one}
-use mathlib.Core.Bool.{Bool, true, false, not, ◌||◌}
-use mathlib.Core.Path.{◌≡◌, refl, subst}
+use mathlib.Core.Bool.{Bool, true, false, ◌||◌}
+use mathlib.Core.Path.{◌≡◌, refl, ap}
 use mathlib.Core.List.{List, [], ◌∷◌}
-use lib.Dec.{T as Holds}
-use lib.ListN.{length, get_or, drop, drop_of_length-le}
-use lib.Seq.{drop-cons}
-use borrow.Author.Tests.{eq-eqb, ne_eqb, lt-ltb, le-ltb}
+use lib.ListN.{length, get_or}
+use borrow.Author.Tests.{eq-eqb, ne_eqb}
+use Rattle.std.specs.Prelude.{Ok, is_ok}
 use Rattle.memory.specs.Access.{pick}
 use Rattle.insn.specs.declared.profile.Profile.{Profile}
 use Rattle.machine.specs.declared.state.State.{State}
-use Rattle.machine.specs.declared.refusal.Refusal.{Refusal}
-use Rattle.machine.specs.Refusal.{accepts_of}
-use Rattle.machine.specs.Register.{start_refusal}
+use Rattle.machine.specs.Register.{check_start}
 use Rattle.machine.specs.Step.{step_of}
-use Rattle.machine.proofs.Refusals.{or_accepts, start_accepts, accepted_halt}
-use Rattle.run.specs.Run.{Ran, run_of, past_of}
-use Rattle.run.specs.Outcome.{events_good, accepted, refused_with, answered, run_refusal, step_refusal, step_outcome}
+use Rattle.machine.proofs.Refusals.{and_accepts, start_accepts, accepted_halt}
+use Rattle.run.specs.Run.{run_of, past_of}
+use Rattle.run.specs.Outcome.{check_run}
 
 module _ (p : Profile) (ev : List ℕ) (s : State) (m : List ℕ) where
   pub run_more : (b i : ℕ) → i < b → s.halt ≡ 0
@@ -64,42 +61,13 @@ module _ (p : Profile) (ev : List ℕ) (s : State) (m : List ℕ) where
   past_halted zero i h = refl
   past_halted (suc n) i h = rw (ne_eqb s.halt 0 h)
 
-pub or_nothing : (t : Bool) → (t || false) ≡ t
-or_nothing true = refl
-or_nothing false = refl
-
-pub or_told : (t : Bool) → (t || true) ≡ true
-or_told true = refl
-or_told false = refl
-
 -- a run of one step
 pub run_one : (p : Profile) (e : ℕ) (s : State) (m : List ℕ) → s.halt ≡ 0
     → run_of p 1 0 (e ∷ []) s m ≡ record { st = (step_of p s m e).st; mem = (step_of p s m e).mem; steps = 1 }
 unfolding run_of
 run_one p e s m z = rw (eq-eqb s.halt 0 z)
 
-pub good_more : (ev : List ℕ) (i : ℕ) → i < length ev → get_or ev i 0 < 64 → events_good (drop i ev) ≡ events_good (drop (i + 1) ev)
-unfolding events_good
-good_more ev i h l = rw (drop-cons ev i 0 h, lt-ltb (get_or ev i 0) 64 l, add-one)
-
-pub bad_here : (ev : List ℕ) (i : ℕ) → i < length ev → 64 ≤ get_or ev i 0 → events_good (drop i ev) ≡ false
-unfolding events_good
-bad_here ev i h l = rw (drop-cons ev i 0 h, le-ltb (get_or ev i 0) 64 l)
-
-pub good_end : (ev : List ℕ) (i : ℕ) → length ev ≤ i → events_good (drop i ev) ≡ true
-unfolding events_good
-good_end ev i h = rw (drop_of_length-le ev h)
-
-refused_kept : (s : State) (r : Refusal) (ran : Ran) (b : Bool) → accepts_of r ≡ b → Holds (not (accepts_of (answered r s ran).refusal)) → s ≡ (answered r s ran).state
-refused_kept s r ran true e h = absurd (subst (λ (b : Bool). Holds (not (accepts_of (pick b (accepted ran) (refused_with s r)).refusal))) e h)
-refused_kept s r ran false e h = rw e
-
--- a refused step leaves the state
-pub refused_state : (p : Profile) (s : State) (m : List ℕ) (e : ℕ) → Holds (not (accepts_of (step_outcome p s m e).refusal)) → s ≡ (step_outcome p s m e).state
-unfolding step_outcome
-refused_state p s m e h = refused_kept s (step_refusal p s m e) (run_of p 1 0 (e ∷ []) s m) (accepts_of (step_refusal p s m e)) refl h
-
 -- an accepted run starts with one of the halt codes
-pub run_halt : (p : Profile) (s : State) (m ev : List ℕ) (budget : ℕ) → accepts_of (run_refusal p s m ev budget) ≡ true → s.halt ≤ 5
-unfolding run_refusal
-run_halt p s m ev budget h = accepted_halt p s (start_accepts p s (length m) (or_accepts (start_refusal p s (length m)) _ h).0).1
+pub run_halt : (p : Profile) (s : State) (m ev : List ℕ) (budget : ℕ) → check_run p s m ev budget ≡ Ok tt → s.halt ≤ 5
+unfolding check_run
+run_halt p s m ev budget h = accepted_halt p s (start_accepts p s (length m) (and_accepts (check_start p s (length m)) _ (ap is_ok h)).0).1

@@ -1,75 +1,74 @@
 // What a run and a single step answer, refusals first.
 ghost use Rattle.std.specs.Prelude.{◌≡◌};
-ghost use Rattle.run.specs.Outcome.{events_good, events_refusal, run_refusal, step_refusal};
+ghost use Rattle.run.specs.Outcome.{events_good, check_events, check_run, check_step};
 
 use insn::profile::Profile;
-use machine::refusal::{Refusal, accepts};
+use machine::refusal::Refusal;
 use machine::state::State;
 
+// What a run that is accepted leaves beside the memory. The halt code is the state's own: the scope has it in the answer, beside the
+// count (docs/DECISIONS.md, Named forms).
 #[derive(Clone, Copy)]
 pub struct Outcome {
-    pub refusal: Refusal,
     pub state: State,
     pub halt: u32,
     pub steps: u32,
 }
 
+// How a run ended: its halt code, and the count of steps with it. A run's loop breaks with it, and a step over a lent state answers it.
+#[derive(Clone, Copy)]
+pub struct Stop {
+    pub halt: u32,
+    pub steps: u32,
+}
+
 // Whether every event byte is below 64.
+#[tactic(auto, unfolding(crate::specs::Outcome::events_good))]
 fn events_good(events: &[u8]) -> bool
     ensures { result ≡ events_good events.now }
 {
-    let mut i = 0;
-    while i < events.len() {
-        if events[i] >= 64 {
-            return false;
-        }
-        i += 1;
-    }
-    true
+    events.iter().all(|event| *event < 64)
 }
 
-// Refusal 5.
-fn events_refusal(events: &[u8]) -> Refusal
-    ensures { result ≡ events_refusal events.now }
+// Refused as events: a list of more than 1,048,576 bytes, or one with a byte of 64 or more.
+#[tactic(auto, unfolding(crate::specs::Outcome::check_events))]
+fn check_events(events: &[u8]) -> Result<(), Refusal>
+    ensures { result ≡ check_events events.now }
 {
     if (events.len() <= 1_048_576) & events_good(events) {
-        Refusal::None
+        Ok(())
     } else {
-        Refusal::Events
+        Err(Refusal::Events)
     }
 }
 
-// A run checks 1, 2, 3, 4, 5.
-pub fn run_refusal(
+// A run checks the memory's length, IAR, the reserved bits, the budget and the events, in this order.
+#[tactic(auto, unfolding(crate::specs::Outcome::check_run))]
+pub fn check_run(
     profile: Profile,
     state: State,
     mem: &[u8],
     events: &[u8],
     budget: u32,
-) -> Refusal
-    ensures { result ≡ run_refusal profile state mem.now events.now budget }
+) -> Result<(), Refusal>
+    ensures { result ≡ check_run profile state mem.now events.now budget }
 {
-    let start = state.start_refusal(profile, mem.len());
-    if !accepts(start) {
-        return start;
-    }
+    state.check_start(profile, mem.len())?;
     if budget > 1_048_576 {
-        return Refusal::Budget;
+        return Err(Refusal::Budget);
     }
-    events_refusal(events)
+    check_events(events)
 }
 
-// A single step checks 1, 2, 3, 5.
-pub fn step_refusal(profile: Profile, state: State, mem: &[u8], event: u8) -> Refusal
-    ensures { result ≡ step_refusal profile state mem.now event }
+// A single step checks the same but the budget; its event is one byte.
+#[tactic(auto, unfolding(crate::specs::Outcome::check_step, crate::specs::Outcome::check_events, crate::specs::Outcome::events_good))]
+pub fn check_step(profile: Profile, state: State, mem: &[u8], event: u8) -> Result<(), Refusal>
+    ensures { result ≡ check_step profile state mem.now event }
 {
-    let start = state.start_refusal(profile, mem.len());
-    if !accepts(start) {
-        return start;
-    }
+    state.check_start(profile, mem.len())?;
     if event < 64 {
-        Refusal::None
+        Ok(())
     } else {
-        Refusal::Events
+        Err(Refusal::Events)
     }
 }

@@ -1,30 +1,22 @@
 // The run and the single step.
 ghost use Rattle.std.specs.Prelude.{◌≡◌, ◌-◌, get_or};
 ghost use Rattle.run.specs.Run.{run_of};
-ghost use Rattle.run.specs.Outcome.{refused_with, accepted, run_outcome, run_memory, step_outcome, step_memory};
+ghost use Rattle.run.specs.Outcome.{accepted, run_outcome, run_memory, step_outcome, step_memory};
 
-use crate::outcome::{Outcome, run_refusal, step_refusal};
+use crate::outcome::{Outcome, Stop, check_run, check_step};
 use insn::profile::Profile;
-use machine::refusal::{Refusal, accepts};
+use machine::refusal::Refusal;
 use machine::state::State;
-
-// What the loop breaks with: the halt code, and the count of steps with it.
-#[derive(Clone, Copy)]
-pub struct Stop {
-    pub halt: u32,
-    pub steps: u32,
-}
 
 // The event byte of step i: 0 past the list's end.
 pub fn event_at(events: &[u8], i: u32) -> u8
     ensures { result ≡ get_or events.now i 0 }
 {
-    let k = i as usize;
-    if k < events.len() { events[k] } else { 0 }
+    events.get(i as usize).copied().unwrap_or(0)
 }
 
 // Steps until one halts or the budget is used, from step `from` of a run on.
-#[tactic(auto, using(crate::proofs::Laws::run_spent, crate::proofs::Laws::run_halted))]
+#[tactic(auto, using(crate::proofs::Laws::run_more, crate::proofs::Laws::run_spent, crate::proofs::Laws::run_halted))]
 pub fn run_from(
     profile: Profile,
     start: State,
@@ -37,14 +29,9 @@ pub fn run_from(
 {
     let mut s = start;
     let mut i = from;
+    // The scope binds this form: a loop that breaks with the halt code, and the count of steps with it (docs/DECISIONS.md, Named forms).
     let stop = loop {
-        if budget <= i {
-            break Stop {
-                halt: s.halt,
-                steps: i,
-            };
-        }
-        if s.halt != 0 {
+        if budget <= i || s.halt != 0 {
             break Stop {
                 halt: s.halt,
                 steps: i,
@@ -54,45 +41,32 @@ pub fn run_from(
         i += 1;
     };
     Outcome {
-        refusal: Refusal::None,
         state: s,
         halt: stop.halt,
         steps: stop.steps,
     }
 }
 
-// The state as given, and no steps.
-pub fn refused(state: State, refusal: Refusal) -> Outcome
-    ensures { result ≡ refused_with state refusal }
-{
-    Outcome {
-        refusal,
-        state,
-        halt: state.halt,
-        steps: 0,
-    }
-}
-
-pub fn run(profile: Profile, state: State, mem: &mut [u8], events: &[u8], budget: u32) -> Outcome
+#[tactic(auto, unfolding(crate::specs::Outcome::run_outcome, crate::specs::Outcome::run_memory))]
+pub fn run(
+    profile: Profile,
+    state: State,
+    mem: &mut [u8],
+    events: &[u8],
+    budget: u32,
+) -> Result<Outcome, Refusal>
     ensures { (result ≡ run_outcome profile state mem.old events.now budget) × (mem.new ≡ run_memory profile state mem.old events.now budget) }
 {
-    let refusal = run_refusal(profile, state, &mem[..], events, budget);
-    if accepts(refusal) {
-        run_from(profile, state, mem, events, 0, budget)
-    } else {
-        refused(state, refusal)
-    }
+    check_run(profile, state, &mem[..], events, budget)?;
+    Ok(run_from(profile, state, mem, events, 0, budget))
 }
 
 // One step: a run of one, with one event.
-pub fn step(profile: Profile, state: State, mem: &mut [u8], event: u8) -> Outcome
+#[tactic(auto, unfolding(crate::specs::Outcome::step_outcome, crate::specs::Outcome::step_memory))]
+pub fn step(profile: Profile, state: State, mem: &mut [u8], event: u8) -> Result<Outcome, Refusal>
     ensures { (result ≡ step_outcome profile state mem.old event) × (mem.new ≡ step_memory profile state mem.old event) }
 {
-    let refusal = step_refusal(profile, state, &mem[..], event);
-    if accepts(refusal) {
-        let events = [event];
-        run_from(profile, state, mem, &events, 0, 1)
-    } else {
-        refused(state, refusal)
-    }
+    check_step(profile, state, &mem[..], event)?;
+    let events = [event];
+    Ok(run_from(profile, state, mem, &events, 0, 1))
 }

@@ -5,7 +5,7 @@ use mathlib.Core.Path.{◌≡◌}
 use mathlib.Core.List.{List}
 use lib.ListN.{length}
 use Rattle.memory.specs.Access.{sized_of}
-use Rattle.machine.specs.Refusal.{accepts_of}
+use Rattle.std.specs.Prelude.{is_ok}
 use Rattle.machine.specs.declared.refusal.Refusal.{Refusal}
 use Rattle.srecord.specs.Record.{lines_of}
 use Rattle.srecord.specs.File.{start, refused_at, verdict, placed, read_of, memory_of}
@@ -20,10 +20,10 @@ module _ (m f : List ℕ) where
     unfolding read_of
     read_sized = rw h
 
-    pub read_refused : accepts_of (verdict (length m) start 1 (lines_of f)).refusal ≡ false → m ≡ memory_of m f
+    pub read_refused : is_ok (verdict (length m) start 1 (lines_of f)) ≡ false → m ≡ memory_of m f
     unfolding read_of memory_of
     read_refused e = rw (h, e)
 
-    pub read_good : accepts_of (verdict (length m) start 1 (lines_of f)).refusal ≡ true → placed m (lines_of f) ≡ memory_of m f
+    pub read_good : is_ok (verdict (length m) start 1 (lines_of f)) ≡ true → placed m (lines_of f) ≡ memory_of m f
     unfolding read_of memory_of
     read_good e = rw (h, e)

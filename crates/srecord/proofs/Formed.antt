@@ -6,11 +6,14 @@ use mathlib.Core.Path.{◌≡◌, refl, ap, sym, ◌∙◌}
 use mathlib.Core.List.{List, [], ◌∷◌}
 use lib.Dec.{ltb, leb, eqb, lit≤}
 use lib.ListN.{length, get_or, get_or-eq_default}
-use borrow.Author.Tests.{ltb-true, leb-true, eqb-true, eqb-false, ne_eqb, not-true}
+use borrow.Author.Tests.{lt-ltb, le-leb, lt-leb, ltb-true, leb-true, eqb-true, eqb-false, ne_eqb, not-true}
+use Rattle.std.specs.Prelude.{Some, None}
 use Rattle.memory.specs.Access.{pick}
 use Rattle.srecord.specs.Hex.{letter_of, digit_of, joined, pair_at, bytes_at, all_bytes, sum_of}
-use Rattle.srecord.specs.Record.{widths, width_of, room_for, ends_at, headed_at, formed_at}
-use Rattle.word.proofs.Truth.{never, and_true}
+use Rattle.srecord.specs.Record.{width_of, room_for, ends_at, headed_at, formed_at}
+use Rattle.srecord.specs.Found.{kind_at, head_of}
+use Rattle.srecord.specs.declared.line.Head.{Head}
+use Rattle.word.proofs.Truth.{never, and_true, and_yes}
 use Rattle.word.proofs.Laws.{split}
 
 pub and_no : (a : Bool) → (a && false) ≡ false
@@ -49,10 +52,6 @@ width_ge (suc (suc (suc (suc (suc (suc (suc zero))))))) h = (lit≤ tt, lit≤ t
 width_ge (suc (suc (suc (suc (suc (suc (suc (suc zero)))))))) h = (lit≤ tt, lit≤ tt)
 width_ge (suc (suc (suc (suc (suc (suc (suc (suc (suc zero))))))))) h = (lit≤ tt, lit≤ tt)
 width_ge (suc (suc (suc (suc (suc (suc (suc (suc (suc (suc t)))))))))) h = absurd (h refl)
-
-pub width_out : (t : ℕ) → 10 ≤ t → width_of t ≡ 0
-unfolding width_of
-width_out t h = get_or-eq_default widths 0 {n = t} h
 
 pub pair_outside : (p : ℕ) (f : List ℕ) → length f < p + 2 → pair_at f p ≡ 256
 unfolding pair_at joined letter_of digit_of
@@ -119,20 +118,14 @@ pub formed_sum : (i : ℕ) (f : List ℕ) → headed_at f i ≡ true → all_byt
 unfolding formed_at
 formed_sum i f h b e = rw (h, b, e)
 
--- a sum that was found, or not
-sum_cases : (b : Bool) (s : ℕ) (bs : List ℕ) → all_bytes bs ≡ b → s ≡ pick b (sum_of bs) 65536 → s ≤ 65535 → (b ≡ true) × (s ≡ sum_of bs)
-sum_cases true s bs e h l = (refl, h)
-sum_cases false s bs e h l = absurd (omega arith)
+-- what is found, or not
+pub found_cases : {A : Type 0} (b : Bool) (x y : A) → pick b (Some x) None ≡ Some y → (b ≡ true) × (x ≡ y)
+found_cases true x y h = (refl, cc)
+found_cases false x y h = let z : ◌≡◌ {A = ℕ} 0 1 = cc in absurd (omega arith)
 
-pub sum_found : (s : ℕ) (bs : List ℕ) → s ≡ pick (all_bytes bs) (sum_of bs) 65536 → s ≤ 65535 → (all_bytes bs ≡ true) × (s ≡ sum_of bs)
-sum_found s bs h l = sum_cases (all_bytes bs) s bs refl h l
-
-none_cases : (b : Bool) (s : ℕ) (bs : List ℕ) → length bs ≤ 255 → all_bytes bs ≡ b → s ≡ pick b (sum_of bs) 65536 → 65535 < s → b ≡ false
-none_cases true s bs l e h m = absurd (omega (arith, sum_le bs e))
-none_cases false s bs l e h m = refl
-
-pub sum_none : (s : ℕ) (bs : List ℕ) → length bs ≤ 255 → s ≡ pick (all_bytes bs) (sum_of bs) 65536 → 65535 < s → all_bytes bs ≡ false
-sum_none s bs l h m = none_cases (all_bytes bs) s bs l refl h m
+pub none_cases : {A : Type 0} (b : Bool) (x : A) → pick b (Some x) None ≡ None → b ≡ false
+none_cases true x h = cc
+none_cases false x h = refl
 
 pub record Headed (f : List ℕ) (i : ℕ) : Type 0 where
   pub letter : get_or f i 0 ≡ 83
@@ -167,6 +160,25 @@ formed_is i f h =
     let z = and_true (headed_at f i) (all_bytes (bytes_at n f (i + 4))) y.0 in
     record { head = headed_is i f z.0; bytes = z.1; ends = y.1 }
 
+-- what a line's head is, or that it has none
+module _ (f : List ℕ) (i : ℕ) where
+  pub head_bare : get_or f (i + 1) 0 < 48 → head_of f i ≡ None
+  unfolding head_of headed_at
+  head_bare h = rw (lt-leb 48 (get_or f (i + 1) 0) h, and_no)
+
+  pub head_wide : width_of (get_or f (i + 1) 0 - 48) ≡ 0 → head_of f i ≡ None
+  unfolding head_of headed_at room_for
+  head_wide h = rw (h, and_no)
+
+  pub head_odd : pair_at f (i + 2) ≡ 256 → head_of f i ≡ None
+  unfolding head_of headed_at
+  head_odd h = rw (h, and_no)
+
+  pub head_is : (k w n : ℕ) → 48 ≤ get_or f (i + 1) 0 → get_or f (i + 1) 0 - 48 ≡ k → width_of k ≡ w → (w ≡ 0 → ⊥) → pair_at f (i + 2) ≡ n → n < 256
+      → head_of f i ≡ pick (eqb (get_or f i 0) 83 && pick (leb k 3) (ltb w n) (eqb n (w + 1))) (Some (record { kind = k; width = w; count = n })) None
+  unfolding head_of headed_at room_for
+  head_is k w n l e g z p q = rw (le-leb 48 (get_or f (i + 1) 0) l, e, g, p, lt-ltb n 256 q, ne_eqb w 0 z, and_yes (eqb (get_or f i 0) 83) {b = true} refl, and_yes (eqb (get_or f i 0) 83) {b = true} refl)
+
 -- the count has room for an address and the check byte
 pub record Room (t n : ℕ) : Type 0 where
   pub low : 2 ≤ width_of t
@@ -184,6 +196,33 @@ room_is t n h =
     let x = and_true (not (eqb (width_of t) 0)) (pick (leb t 3) (ltb (width_of t) n) (eqb n (width_of t + 1))) h in
     let w = width_ge t (eqb-false (width_of t) 0 (not-true (eqb (width_of t) 0) x.0)) in
     record { low = w.0; high = width_le t; kind = w.1; fits = room_cases t n (leb t 3) x.1 }
+
+-- what the head of a line is
+pub record HeadIs (f : List ℕ) (i : ℕ) (h : Head) : Type 0 where
+  pub headed : headed_at f i ≡ true
+  pub kind : kind_at f i ≡ h.kind
+  pub width : width_of (kind_at f i) ≡ h.width
+  pub count : pair_at f (i + 2) ≡ h.count
+  pub small : pair_at f (i + 2) < 256
+  pub room : Room (kind_at f i) (pair_at f (i + 2))
+
+pub head_found : (f : List ℕ) (i : ℕ) (h : Head) → head_of f i ≡ Some h → HeadIs f i h
+unfolding head_of
+head_found f i h e =
+    let q = found_cases (headed_at f i) _ h e in
+    let d = headed_is i f q.0 in
+    record {
+      headed = q.0;
+      kind = ap (λ (x : Head). x.kind) q.1;
+      width = ap (λ (x : Head). x.width) q.1;
+      count = ap (λ (x : Head). x.count) q.1;
+      small = d.count;
+      room = room_is (kind_at f i) (pair_at f (i + 2)) d.room;
+    }
+
+pub head_none : (f : List ℕ) (i : ℕ) → head_of f i ≡ None → headed_at f i ≡ false
+unfolding head_of
+head_none f i e = none_cases (headed_at f i) _ e
 
 pub ends_inside : (p : ℕ) (f : List ℕ) → ends_at f p ≡ true → p < length f
 ends_inside p f h = split p (length f) (λ l. l) (λ l. never (sym h ∙ ends_outside p f l))

@@ -1,106 +1,107 @@
 -- Laws of a record's refusal, a way through the code each; and of the verdict on what is left of a file. Assumes nothing.
-use Prim.Native.Nat.{ℕ, zero, suc, ◌+◌, ◌*◌, ◌-◌, ◌≤◌, ◌<◌}
+use Prim.Native.Nat.{ℕ, zero, suc, ◌+◌, ◌*◌, ◌-◌, ◌%◌, ◌≤◌, ◌<◌}
 use native.Mathlib.Omega.{arith}
-use mathlib.Core.Bool.{Bool, true, false, not, ◌&&◌, ◌||◌}
+use mathlib.Core.Bool.{true, false, not, ◌||◌}
 use mathlib.Core.Path.{◌≡◌, refl, ap, sym, ◌∙◌}
 use mathlib.Core.List.{List, ◌∷◌, ◌++◌}
-use lib.Dec.{ltb, leb, eqb}
-use lib.ListN.{length, get_or, drop, drop_of_length-le}
+use lib.Dec.{ltb, leb, eqb, lit≤}
+use lib.ListN.{length, drop, drop_of_length-le}
 use lib.Seq.{sets}
-use borrow.Author.Tests.{lt-leb, le-leb, leb-true, eq-eqb, ne_eqb, not-true}
+use borrow.Author.Tests.{lt-leb, le-leb, leb-true, eq-eqb, ne_eqb, ltb-true, not-true}
 use Rattle.memory.specs.Access.{pick}
-use Rattle.srecord.specs.Hex.{digit_of, joined, pair_at, bytes_at, all_bytes, number_from}
-use Rattle.srecord.specs.Record.{malformed, holds, is_data, lines_of, formed_at, held_at, record_at, record_of, width_of}
-use Rattle.srecord.specs.Found.{kind_at, address_at, data_at, size_at, next_at, found_of}
-use Rattle.machine.specs.Refusal.{accepts_of, unless}
+use Rattle.srecord.specs.Hex.{pair_at, bytes_at, all_bytes, number_from}
+use Rattle.srecord.specs.Record.{malformed, holds, is_data, is_end, lines_of, ends_at, formed_at, held_at, record_at, record_of, width_of}
+use Rattle.srecord.specs.Found.{kind_at, address_at, data_at, size_at, next_at, number_in, sum_in, end_of, found_at, found_of}
+use Rattle.std.specs.Prelude.{Some, None, Ok, Err, is_ok}
+use Rattle.std.specs.Result.{result_and}
+use Rattle.machine.specs.Refusal.{Checked, unless}
 use Rattle.machine.specs.declared.refusal.Refusal.{Refusal}
-use Rattle.machine.proofs.Refusals.{or_accepts, unless_accepts}
-use Rattle.srecord.specs.File.{Seen, start, places, any_in, data_refusal, end_refusal, count_refusal, record_refusal, line_refusal, after, after_line, refused_at, good, verdict, put, placed}
-use Rattle.srecord.specs.declared.line.Found.{Found}
+use Rattle.machine.proofs.Refusals.{and_accepts, unless_accepts}
+use Rattle.srecord.specs.File.{Seen, start, same_kind, at_line, places, any_in, check_data, check_end, check_count, check_record, check_line, after, after_line, refused_at, good, verdict, put, placed}
+use Rattle.srecord.specs.declared.line.Head.{Head}
+use Rattle.srecord.specs.declared.line.Record.{Record}
 use Rattle.word.proofs.Truth.{never, and_true}
 use Rattle.srecord.specs.Named.{StandsFor}
 use Rattle.srecord.specs.Judged.{seen_of}
 use Rattle.srecord.specs.declared.check.Sofar.{Sofar}
-use Rattle.srecord.specs.declared.check.Verdict.{Verdict}
-use Rattle.srecord.proofs.Spelt.{both_digits, number_two, number_three, number_four}
-use Rattle.word.proofs.Laws.{split}
-use Rattle.srecord.proofs.Formed.{decide, bytes_length, formed_is, formed_stands}
+use Rattle.srecord.proofs.Spelt.{limit, limit_more, limit_le}
+use Rattle.srecord.proofs.Formed.{decide, and_no, found_cases, none_cases, HeadIs, formed_garbled, formed_endless, formed_sum, sum_le, bytes_length, formed_is, formed_stands}
 use Rattle.srecord.proofs.Lines.{first_at}
 
-nor_true : (a b : Bool) → (not a && not b) ≡ true → (a || b) ≡ false
-nor_true true b h = never (sym h)
-nor_true false true h = never (sym h)
-nor_true false false h = refl
-
-nor_false : (a b : Bool) → (not a && not b) ≡ false → (a || b) ≡ true
-nor_false true b h = refl
-nor_false false true h = refl
-nor_false false false h = never h
-
 module _ (m t a n : ℕ) (s : Seen) where
-  pub data_mixed : (not (eqb s.kind 0) && not (eqb s.kind t)) ≡ true → Refusal.Record ≡ data_refusal m s t a n
-  unfolding data_refusal
-  data_mixed h = rw (nor_true (eqb s.kind 0) (eqb s.kind t) h)
+  pub data_mixed : same_kind s.kind t ≡ false → Err Refusal.Record ≡ check_data m s t a n
+  unfolding check_data
+  data_mixed h = rw h
 
-  module _ (h : (not (eqb s.kind 0) && not (eqb s.kind t)) ≡ false) where
-    pub data_none : n ≡ 0 → Refusal.None ≡ data_refusal m s t a n
-    unfolding data_refusal places any_in
-    data_none e = rw (nor_false (eqb s.kind 0) (eqb s.kind t) h, e)
+  module _ (h : same_kind s.kind t ≡ true) where
+    pub data_none : n ≡ 0 → Ok tt ≡ check_data m s t a n
+    unfolding check_data places any_in
+    data_none e = rw (h, e)
 
-    pub data_outside : (n ≡ 0 → ⊥) → m < a + n → Refusal.Outside ≡ data_refusal m s t a n
-    unfolding data_refusal
-    data_outside e l = rw (nor_false (eqb s.kind 0) (eqb s.kind t) h, ne_eqb n 0 e, lt-leb (a + n) m l)
+    pub data_outside : (n ≡ 0 → ⊥) → m < a + n → Err Refusal.Outside ≡ check_data m s t a n
+    unfolding check_data
+    data_outside e l = rw (h, ne_eqb n 0 e, lt-leb (a + n) m l)
 
-    pub data_inside : (n ≡ 0 → ⊥) → a + n ≤ m → data_refusal m s t a n ≡ unless (not (any_in (places a n) s.named)) Refusal.Twice
-    unfolding data_refusal
-    data_inside e l = rw (nor_false (eqb s.kind 0) (eqb s.kind t) h, ne_eqb n 0 e, le-leb (a + n) m l)
+    pub data_inside : (n ≡ 0 → ⊥) → a + n ≤ m → check_data m s t a n ≡ unless (not (any_in (places a n) s.named)) Refusal.Twice
+    unfolding check_data
+    data_inside e l = rw (h, ne_eqb n 0 e, le-leb (a + n) m l)
 
-  pub rec_ended : s.ended ≡ true → Refusal.Record ≡ record_refusal m s t a n
-  unfolding record_refusal
+  pub rec_ended : s.ended ≡ true → Err Refusal.Record ≡ check_record m s t a n
+  unfolding check_record
   rec_ended e = rw e
 
   module _ (e : s.ended ≡ false) where
-    pub rec_data : is_data t ≡ true → (record_refusal m s t a n ≡ data_refusal m s t a n) × ((after s t a n).named ≡ places a n ++ s.named)
-    unfolding record_refusal after
+    pub rec_data : is_data t ≡ true → (check_record m s t a n ≡ check_data m s t a n) × ((after s t a n).named ≡ places a n ++ s.named)
+    unfolding check_record after
     rec_data d = (rw (e, d), rw d)
 
     module _ (d : is_data t ≡ false) where
-      pub rec_end : 7 ≤ t → (record_refusal m s t a n ≡ end_refusal s t) × ((after s t a n).named ≡ s.named)
-      unfolding record_refusal after
+      pub rec_end : 7 ≤ t → (check_record m s t a n ≡ check_end s t) × ((after s t a n).named ≡ s.named)
+      unfolding check_record after
       rec_end l = (rw (e, d, le-leb 7 t l), rw d)
 
-      pub rec_count : t < 7 → t ≡ 5 → (record_refusal m s t a n ≡ count_refusal s a) × ((after s t a n).named ≡ s.named)
-      unfolding record_refusal after
+      pub rec_count : t < 7 → t ≡ 5 → (check_record m s t a n ≡ check_count s a) × ((after s t a n).named ≡ s.named)
+      unfolding check_record after
       rec_count l c = (rw (e, d, lt-leb 7 t l, eq-eqb t 5 c), rw d)
 
-      pub rec_other : t < 7 → (t ≡ 5 → ⊥) → (Refusal.None ≡ record_refusal m s t a n) × ((after s t a n).named ≡ s.named)
-      unfolding record_refusal after
+      pub rec_other : t < 7 → (t ≡ 5 → ⊥) → (Ok tt ≡ check_record m s t a n) × ((after s t a n).named ≡ s.named)
+      unfolding check_record after
       rec_other l c = (rw (e, d, lt-leb 7 t l, ne_eqb t 5 c), rw d)
+
+-- whether a type has data for memory, by where its digit lies
+pub data_yes : (t : ℕ) → 1 ≤ t → t ≤ 3 → is_data t ≡ true
+data_yes t l h = rw (le-leb 1 t l, le-leb t 3 h)
+
+pub data_low : (t : ℕ) → t < 1 → is_data t ≡ false
+data_low t l = rw (lt-leb 1 t l)
+
+pub data_high : (t : ℕ) → 3 < t → is_data t ≡ false
+data_high t h = rw (lt-leb t 3 h, and_no)
 
 -- data that are not refused lie inside, and were not named before
 pub record Fits (m a n : ℕ) (s : Seen) : Type 0 where
   pub inside : 0 < n → a + n ≤ m
   pub fresh : any_in (places a n) s.named ≡ false
 
-data_fits : (m t a n : ℕ) (s : Seen) → accepts_of (data_refusal m s t a n) ≡ true → Fits m a n s
-unfolding data_refusal
+data_fits : (m t a n : ℕ) (s : Seen) → is_ok (check_data m s t a n) ≡ true → Fits m a n s
+unfolding check_data
 data_fits m t a n s h =
-    let x = or_accepts (unless (eqb s.kind 0 || eqb s.kind t) Refusal.Record) _ h in
-    let y = or_accepts (unless (eqb n 0 || leb (a + n) m) Refusal.Outside) _ x.1 in
-    let z = unless_accepts (eqb n 0 || leb (a + n) m) Refusal.Outside refl y.0 in
+    let x = and_accepts (unless (same_kind s.kind t) Refusal.Record) (result_and (unless (eqb n 0 || leb (a + n) m) Refusal.Outside) (unless (not (any_in (places a n) s.named)) Refusal.Twice)) h in
+    let y = and_accepts (unless (eqb n 0 || leb (a + n) m) Refusal.Outside) (unless (not (any_in (places a n) s.named)) Refusal.Twice) x.1 in
+    let z = unless_accepts (eqb n 0 || leb (a + n) m) Refusal.Outside y.0 in
     record {
       inside = λ l. leb-true (a + n) m (rw (ne_eqb n 0 (λ e. absurd (omega arith))) at z);
-      fresh = not-true (any_in (places a n) s.named) (unless_accepts (not (any_in (places a n) s.named)) Refusal.Twice refl y.1);
+      fresh = not-true (any_in (places a n) s.named) (unless_accepts (not (any_in (places a n) s.named)) Refusal.Twice y.1);
     }
 
 -- a record that is not refused comes before the end
-pub record_going : (m t a n : ℕ) (s : Seen) → accepts_of (record_refusal m s t a n) ≡ true → s.ended ≡ false
-unfolding record_refusal
+pub record_going : (m t a n : ℕ) (s : Seen) → is_ok (check_record m s t a n) ≡ true → s.ended ≡ false
+unfolding check_record
 record_going m t a n s h =
-    let x = or_accepts (unless (not s.ended) Refusal.Record) _ h in
-    not-true s.ended (unless_accepts (not s.ended) Refusal.Record refl x.0)
+    let x = and_accepts (unless (not s.ended) Refusal.Record) (pick (is_data t) (check_data m s t a n) (pick (is_end t) (check_end s t) (pick (eqb t 5) (check_count s a) (Ok tt)))) h in
+    not-true s.ended (unless_accepts (not s.ended) Refusal.Record x.0)
 
-pub record_fits : (m t a n : ℕ) (s : Seen) → accepts_of (record_refusal m s t a n) ≡ true → is_data t ≡ true → Fits m a n s
+pub record_fits : (m t a n : ℕ) (s : Seen) → is_ok (check_record m s t a n) ≡ true → is_data t ≡ true → Fits m a n s
 record_fits m t a n s h d = data_fits m t a n s (rw (rec_data m t a n s (record_going m t a n s h) d).0 at h)
 
 -- what stands at a place, formed or not
@@ -112,31 +113,104 @@ pub record_bad : (i : ℕ) (f : List ℕ) → formed_at f i ≡ false → record
 unfolding record_at
 record_bad i f h = rw h
 
-pub record FoundIs (f : List ℕ) (i k a s n e : ℕ) : Type 0 where
+pub record FoundIs (f : List ℕ) (i : ℕ) (q : Record) : Type 0 where
   pub formed : formed_at f i ≡ true
-  pub kind : k ≡ kind_at f i
-  pub address : a ≡ address_at f i
-  pub start : s ≡ data_at f i
-  pub size : n ≡ size_at f i
-  pub next : e ≡ next_at f i
+  pub kind : q.kind ≡ kind_at f i
+  pub address : q.address ≡ address_at f i
+  pub start : q.start ≡ data_at f i
+  pub size : q.size ≡ size_at f i
+  pub next : q.next ≡ next_at f i
 
-found_cases : (f : List ℕ) (i k a s n e : ℕ) (b : Bool) → formed_at f i ≡ b
-    → pick b (Found.Record (kind_at f i) (address_at f i) (data_at f i) (size_at f i) (next_at f i)) Found.Malformed ≡ Found.Record k a s n e → FoundIs f i k a s n e
-found_cases f i k a s n e true b h = record { formed = b; kind = cc; address = cc; start = cc; size = cc; next = cc }
-found_cases f i k a s n e false b h = let z : ◌≡◌ {A = ℕ} 0 1 = cc in absurd (omega arith)
-
-pub found_is : (f : List ℕ) (i k a s n e : ℕ) → found_of f i ≡ Found.Record k a s n e → FoundIs f i k a s n e
+pub found_is : (f : List ℕ) (i : ℕ) (q : Record) → found_of f i ≡ Some q → FoundIs f i q
 unfolding found_of
-found_is f i k a s n e h = found_cases f i k a s n e (formed_at f i) refl h
+found_is f i q h =
+    let e = found_cases (formed_at f i) (found_at f i) q h in
+    record {
+      formed = e.0;
+      kind = ap (λ (x : Record). x.kind) (sym e.1);
+      address = ap (λ (x : Record). x.address) (sym e.1);
+      start = ap (λ (x : Record). x.start) (sym e.1);
+      size = ap (λ (x : Record). x.size) (sym e.1);
+      next = ap (λ (x : Record). x.next) (sym e.1);
+    }
 
-bad_cases : (f : List ℕ) (i : ℕ) (b : Bool)
-    → pick b (Found.Record (kind_at f i) (address_at f i) (data_at f i) (size_at f i) (next_at f i)) Found.Malformed ≡ Found.Malformed → b ≡ false
-bad_cases f i true h = let z : ◌≡◌ {A = ℕ} 0 1 = cc in absurd (omega arith)
-bad_cases f i false h = refl
-
-pub found_bad : (f : List ℕ) (i : ℕ) → found_of f i ≡ Found.Malformed → formed_at f i ≡ false
+pub found_bad : (f : List ℕ) (i : ℕ) → found_of f i ≡ None → formed_at f i ≡ false
 unfolding found_of
-found_bad f i h = bad_cases f i (formed_at f i) h
+found_bad f i h = none_cases (formed_at f i) (found_at f i) h
+
+bytes_part : (n k p : ℕ) (f : List ℕ) → all_bytes (bytes_at (k + n) f p) ≡ true → all_bytes (bytes_at n f (p + 2 * k)) ≡ true
+unfolding bytes_at all_bytes
+bytes_part n zero p f h =
+    let e : zero + n ≡ n = omega arith in
+    let z : p + 2 * zero ≡ p = omega arith in
+    rw z (rw e at h)
+bytes_part n (suc k) p f h =
+    let e : suc k + n ≡ suc (k + n) = omega arith in
+    let z : p + 2 * suc k ≡ p + 2 + 2 * k = omega arith in
+    let q = and_true (ltb (pair_at f p) 256) (all_bytes (bytes_at (k + n) f (p + 2))) (rw e at h) in
+    rw z (bytes_part n k (p + 2) f q.1)
+
+front_part : (n k p : ℕ) (f : List ℕ) → all_bytes (bytes_at (n + k) f p) ≡ true → all_bytes (bytes_at n f p) ≡ true
+unfolding bytes_at all_bytes
+front_part zero k p f h = refl
+front_part (suc n) k p f h =
+    let e : suc n + k ≡ suc (n + k) = omega arith in
+    let q = and_true (ltb (pair_at f p) 256) (all_bytes (bytes_at (n + k) f (p + 2))) (rw e at h) in
+    rw q.0 (front_part n k (p + 2) f q.1)
+
+-- a line that is found part by part, and one that is not
+module _ (f : List ℕ) (i : ℕ) where
+  pub found_none : formed_at f i ≡ false → found_of f i ≡ None
+  unfolding found_of
+  found_none h = rw h
+
+  module _ (h : Head) (d : HeadIs f i h) where
+    bytes_none : all_bytes (bytes_at h.count f (i + 4)) ≡ false → found_of f i ≡ None
+    bytes_none e = found_none (formed_garbled i f (rw d.count e))
+
+    pub address_none : number_in (bytes_at h.width f (i + 4)) ≡ None → found_of f i ≡ None
+    address_none e =
+        decide (all_bytes (bytes_at h.count f (i + 4)))
+        (λ b.
+        let z : h.width + (h.count - h.width) ≡ h.count = omega (arith, d.room.fits, d.width, d.count) in
+        never (sym (front_part h.width (h.count - h.width) (i + 4) f (rw z b)) ∙ none_cases (all_bytes (bytes_at h.width f (i + 4))) _ e))
+        bytes_none
+
+    pub sum_none : sum_in (bytes_at h.count f (i + 4)) ≡ None → found_of f i ≡ None
+    sum_none e = bytes_none (none_cases (all_bytes (bytes_at h.count f (i + 4))) _ e)
+
+    pub sum_small : (s : ℕ) → sum_in (bytes_at h.count f (i + 4)) ≡ Some s → s ≤ 65025
+    sum_small s e =
+        let q = found_cases (all_bytes (bytes_at h.count f (i + 4))) _ s e in
+        omega (arith, q.1, sum_le (bytes_at h.count f (i + 4)) q.0, bytes_length h.count (i + 4) f, d.count, d.small)
+
+    pub end_none : end_of f (i + 4 + 2 * h.count) ≡ None → found_of f i ≡ None
+    unfolding end_of
+    end_none e = found_none (formed_endless i f (rw d.count (none_cases (ends_at f (i + 4 + 2 * h.count)) _ e)))
+
+    module _ (s n : ℕ) (b : sum_in (bytes_at h.count f (i + 4)) ≡ Some s) (e : end_of f (i + 4 + 2 * h.count) ≡ Some n) where
+      sum_test : formed_at f i ≡ eqb ((h.count + s) % 256) 255
+      unfolding end_of
+      sum_test =
+          let q = found_cases (all_bytes (bytes_at h.count f (i + 4))) _ s b in
+          let x = found_cases (ends_at f (i + 4 + 2 * h.count)) _ n e in
+          rw (d.count, q.1) at (formed_sum i f d.headed (rw d.count q.0) (rw d.count x.0))
+
+      pub check_off : ((h.count + s) % 256 ≡ 255 → ⊥) → found_of f i ≡ None
+      check_off o = found_none (sum_test ∙ ne_eqb _ 255 o)
+
+      pub found_whole : (a : ℕ) → number_in (bytes_at h.width f (i + 4)) ≡ Some a → (h.count + s) % 256 ≡ 255
+          → found_of f i ≡ Some (record { kind = h.kind; address = a; start = i + 4 + 2 * h.width; size = h.count - 1 - h.width; next = n })
+      unfolding found_of address_at data_at size_at next_at end_of
+      found_whole a g o =
+          let q = found_cases (all_bytes (bytes_at h.width f (i + 4))) _ a g in
+          let x = found_cases (ends_at f (i + 4 + 2 * h.count)) _ n e in
+          rw (sum_test, eq-eqb ((h.count + s) % 256) 255 o, d.count, d.width, d.kind, q.1, x.1)
+
+-- by cases on a check, with what it answers
+pub result_cases : {C : Type 0} (c : Checked) → (c ≡ Ok tt → C) → ((r : Refusal) → c ≡ Err r → C) → C
+result_cases (Ok tt) f g = f refl
+result_cases (Err r) f g = g r refl
 
 -- the lines from place i on, of which the first is line k
 module _ (m i k : ℕ) (s : Seen) (f : List ℕ) where
@@ -145,46 +219,38 @@ module _ (m i k : ℕ) (s : Seen) (f : List ℕ) where
   verdict_end h = rw (drop_of_length-le f {i = i} h)
 
   pub verdict_bad : i < length f → formed_at f i ≡ false → verdict m s k (lines_of (drop i f)) ≡ refused_at k Refusal.Record
-  unfolding verdict line_refusal
+  unfolding verdict check_line
   verdict_bad h b =
       let q = first_at i f h in
       rw (q.lines, q.same, record_bad i f b)
 
   module _ (h : i < length f) (g : formed_at f i ≡ true) where
-    refusal : Refusal
-    refusal = record_refusal m s (kind_at f i) (address_at f i) (size_at f i)
+    check : Checked
+    check = check_record m s (kind_at f i) (address_at f i) (size_at f i)
 
     verdict_step : verdict m s k (lines_of (drop i f))
-        ≡ pick (accepts_of refusal) (verdict m (after s (kind_at f i) (address_at f i) (size_at f i)) (k + 1) (lines_of (drop (next_at f i) f))) (refused_at k refusal)
-    unfolding verdict line_refusal after_line refusal
+        ≡ result_and (at_line k check) (verdict m (after s (kind_at f i) (address_at f i) (size_at f i)) (k + 1) (lines_of (drop (next_at f i) f)))
+    unfolding verdict check_line after_line check
     verdict_step =
         let q = first_at i f h in
         rw (q.lines, q.same, record_formed i f g, q.next g, bytes_length (size_at f i) (data_at f i) f)
 
-    pub verdict_stop : accepts_of (record_refusal m s (kind_at f i) (address_at f i) (size_at f i)) ≡ false
-        → verdict m s k (lines_of (drop i f)) ≡ refused_at k (record_refusal m s (kind_at f i) (address_at f i) (size_at f i))
-    unfolding refusal
-    verdict_stop n = rw (verdict_step, n)
+    pub verdict_stop : (r : Refusal) → check_record m s (kind_at f i) (address_at f i) (size_at f i) ≡ Err r → verdict m s k (lines_of (drop i f)) ≡ refused_at k r
+    unfolding check
+    verdict_stop r n = rw (verdict_step, n)
 
-    pub verdict_goes : accepts_of (record_refusal m s (kind_at f i) (address_at f i) (size_at f i)) ≡ true
+    pub verdict_goes : check_record m s (kind_at f i) (address_at f i) (size_at f i) ≡ Ok tt
         → verdict m s k (lines_of (drop i f)) ≡ verdict m (after s (kind_at f i) (address_at f i) (size_at f i)) (k + 1) (lines_of (drop (next_at f i) f))
-    unfolding refusal
+    unfolding check
     verdict_goes e = rw (verdict_step, e)
 
-pair_le : (p : ℕ) (f : List ℕ) → pair_at f p ≤ 256
-unfolding pair_at joined
-pair_le p f =
-    decide (ltb (digit_of (get_or f p 0)) 16 && ltb (digit_of (get_or f (p + 1) 0)) 16)
-    (λ e. rw e (omega (arith, both_digits (digit_of (get_or f p 0)) (digit_of (get_or f (p + 1) 0)) e)))
-    (λ e. rw e (omega arith))
-
-number_le : (w p : ℕ) (f : List ℕ) → 2 ≤ w → w ≤ 4 → number_from 0 (bytes_at w f p) ≤ 4311810304
-number_le w p f l h =
-    split w 3
-    (λ a. omega (arith, number_two w p f (omega arith), pair_le p f, pair_le (p + 2) f))
-    (λ a. split w 4
-    (λ b. omega (arith, number_three w p f (omega arith), pair_le p f, pair_le (p + 2) f, pair_le (p + 4) f))
-    (λ b. omega (arith, number_four w p f (omega arith), pair_le p f, pair_le (p + 2) f, pair_le (p + 4) f, pair_le (p + 6) f)))
+number_below : (n k v p : ℕ) (f : List ℕ) → all_bytes (bytes_at n f p) ≡ true → v < limit k → number_from v (bytes_at n f p) < limit (n + k)
+unfolding bytes_at all_bytes number_from
+number_below zero k v p f h l = let e : zero + k ≡ k = omega arith in rw e l
+number_below (suc n) k v p f h l =
+    let q = and_true (ltb (pair_at f p) 256) (all_bytes (bytes_at n f (p + 2))) h in
+    let e : suc n + k ≡ n + suc k = omega arith in
+    rw e (number_below n (suc k) (v * 256 + pair_at f p) (p + 2) f q.1 (limit_more k v (pair_at f p) l (ltb-true (pair_at f p) 256 q.0)))
 
 pub record Bounds (f : List ℕ) (i : ℕ) : Type 0 where
   pub kind : kind_at f i ≤ 9
@@ -196,9 +262,15 @@ pub found_bounds : (i : ℕ) (f : List ℕ) → formed_at f i ≡ true → Bound
 unfolding address_at size_at data_at
 found_bounds i f h =
     let s = formed_stands i f h in
+    let n = pair_at f (i + 2) in
+    let w = width_of (kind_at f i) in
+    let e : w + (n - w) ≡ n = omega (arith, s.room.fits) in
+    let z : w + 0 ≡ w = omega arith in
+    let b = front_part w (n - w) (i + 4) f (rw e (formed_is i f h).bytes) in
+    let l = number_below w 0 0 (i + 4) f b (lit≤ tt) in
     record {
       kind = s.room.kind;
-      address = number_le (width_of (kind_at f i)) (i + 4) f s.room.low s.room.high;
+      address = omega (arith, rw z at l, limit_le w s.room.high);
       size = omega (arith, s.count);
       bytes = omega (arith, s.inside, s.room.fits);
     }
@@ -209,24 +281,20 @@ pub record Going (f : List ℕ) (m : ℕ) (ws : List ℕ) (so : Sofar) (at line 
   pub words : StandsFor ws named
   pub same : verdict m start 1 (lines_of f) ≡ verdict m (seen_of so named) line (lines_of (drop at f))
   pub place : at ≤ length f
-  pub kind : so.kind ≤ 9
   pub count : so.count ≤ at
   pub number : line ≤ at + 1
 
-pub after_bounds : (s : Seen) (t a n : ℕ) → s.kind ≤ 9 → t ≤ 9 → ((after s t a n).kind ≤ 9) × ((after s t a n).count ≤ s.count + 1)
+pub after_count : (s : Seen) (t a n : ℕ) → (after s t a n).count ≤ s.count + 1
 unfolding after
-after_bounds s t a n h l = decide (is_data t) (λ e. rw e (l, omega arith)) (λ e. rw e (h, omega arith))
+after_count s t a n = decide (is_data t) (λ e. rw e (omega arith)) (λ e. rw e (omega arith))
 
 -- a line that is not refused
-pub verdict_good : (m i k : ℕ) (s : Seen) (f : List ℕ) → i < length f → accepts_of (verdict m s k (lines_of (drop i f))).refusal ≡ true
-    → (formed_at f i ≡ true) × (accepts_of (record_refusal m s (kind_at f i) (address_at f i) (size_at f i)) ≡ true)
+pub verdict_good : (m i k : ℕ) (s : Seen) (f : List ℕ) → i < length f → is_ok (verdict m s k (lines_of (drop i f))) ≡ true
+    → (formed_at f i ≡ true) × (check_record m s (kind_at f i) (address_at f i) (size_at f i) ≡ Ok tt)
 verdict_good m i k s f h z =
     decide (formed_at f i)
-    (λ g. (
-      g,
-      decide (accepts_of (record_refusal m s (kind_at f i) (address_at f i) (size_at f i))) (λ e. e) (λ e. rw (verdict_stop m i k s f h g e) at z),
-    ))
-    (λ g. never (sym z ∙ ap (λ (v : Verdict). accepts_of v.refusal) (verdict_bad m i k s f h g)))
+    (λ g. (g, result_cases (check_record m s (kind_at f i) (address_at f i) (size_at f i)) (λ e. e) (λ r e. never (sym (rw (verdict_stop m i k s f h g r e) at z)))))
+    (λ g. never (sym z ∙ ap is_ok (verdict_bad m i k s f h g)))
 
 placed_cons : (m l : List ℕ) (ls : List (List ℕ)) → placed m (l ∷ ls) ≡ placed (put m (record_of l)) ls
 unfolding placed
@@ -251,32 +319,12 @@ placed_end i m f h = rw (drop_of_length-le f {i = i} h)
 pub record Storing (f m₀ m : List ℕ) (at : ℕ) : Type 0 where
   pub seen : Seen
   pub line : ℕ
-  pub fine : accepts_of (verdict (length m₀) seen line (lines_of (drop at f))).refusal ≡ true
+  pub fine : is_ok (verdict (length m₀) seen line (lines_of (drop at f))) ≡ true
   pub same : placed m₀ (lines_of f) ≡ placed m (lines_of (drop at f))
   pub size : length m ≡ length m₀
   pub place : at ≤ length f
 
 -- the data of a formed line are bytes
-bytes_part : (n k p : ℕ) (f : List ℕ) → all_bytes (bytes_at (k + n) f p) ≡ true → all_bytes (bytes_at n f (p + 2 * k)) ≡ true
-unfolding bytes_at all_bytes
-bytes_part n zero p f h =
-    let e : zero + n ≡ n = omega arith in
-    let z : p + 2 * zero ≡ p = omega arith in
-    rw z (rw e at h)
-bytes_part n (suc k) p f h =
-    let e : suc k + n ≡ suc (k + n) = omega arith in
-    let z : p + 2 * suc k ≡ p + 2 + 2 * k = omega arith in
-    let q = and_true (ltb (pair_at f p) 256) (all_bytes (bytes_at (k + n) f (p + 2))) (rw e at h) in
-    rw z (bytes_part n k (p + 2) f q.1)
-
-front_part : (n k p : ℕ) (f : List ℕ) → all_bytes (bytes_at (n + k) f p) ≡ true → all_bytes (bytes_at n f p) ≡ true
-unfolding bytes_at all_bytes
-front_part zero k p f h = refl
-front_part (suc n) k p f h =
-    let e : suc n + k ≡ suc (n + k) = omega arith in
-    let q = and_true (ltb (pair_at f p) 256) (all_bytes (bytes_at (n + k) f (p + 2))) (rw e at h) in
-    rw q.0 (front_part n k (p + 2) f q.1)
-
 pub data_bytes : (i : ℕ) (f : List ℕ) → formed_at f i ≡ true → all_bytes (bytes_at (size_at f i) f (data_at f i)) ≡ true
 unfolding size_at data_at
 data_bytes i f h =

@@ -33,11 +33,6 @@ pub lines_first : (f : List ℕ) → 0 < length f → lines_of f ≡ take (line_
 lines_first [] h = absurd (omega arith)
 lines_first (c ∷ cs) h = first_line c cs
 
-len_le : (f : List ℕ) → line_len f ≤ length f
-unfolding line_len
-len_le [] = omega arith
-len_le (c ∷ cs) = decide (eqb c 10) (λ e. rw e (omega arith)) (λ e. rw e (omega (arith, len_le cs)))
-
 -- a line feed ends the line
 pub feed_len : (f : List ℕ) (j : ℕ) → get_or f j 0 ≡ 10 → line_len f ≤ suc j
 unfolding line_len

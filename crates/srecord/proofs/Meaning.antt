@@ -3,21 +3,21 @@
 use Prim.Native.Nat.{ℕ, zero, suc, ◌+◌, ◌-◌, ◌≤◌, ◌<◌}
 use native.Mathlib.Omega.{arith}
 use mathlib.Core.Bool.{Bool, true, false, ◌&&◌, ◌||◌}
-use mathlib.Core.Path.{◌≡◌, refl, sym, ◌∙◌}
+use mathlib.Core.Path.{◌≡◌, ap, refl, sym, ◌∙◌}
 use mathlib.Core.List.{List, [], ◌∷◌}
 use lib.Dec.{ltb, leb, eqb}
 use lib.ListN.{length, get_or, set, length-set}
 use lib.Seq.{sets, length-sets, get_or-set_same, get_or-set_other}
 use borrow.Author.Tests.{le-leb, le-ltb, lt-leb, lt-ltb, eq-eqb, leb-true, ltb-true, ltb-false}
 use Rattle.memory.specs.Access.{sized_of}
-use Rattle.machine.specs.Refusal.{accepts_of}
+use Rattle.std.specs.Prelude.{is_ok}
 use Rattle.word.proofs.Truth.{never, and_true, or_false}
 use Rattle.word.proofs.Laws.{split}
 use Rattle.srecord.specs.Record.{Line, malformed, holds, is_data, lines_of, record_of}
-use Rattle.srecord.specs.File.{Seen, start, places, is_in, any_in, record_refusal, line_refusal, after, after_line, verdict, put, placed, read_of, memory_of}
+use Rattle.srecord.specs.File.{Seen, start, places, is_in, any_in, check_record, check_line, after, after_line, verdict, put, placed, read_of, memory_of}
 use Rattle.srecord.proofs.Formed.{decide}
 use Rattle.srecord.proofs.Naming.{in_append}
-use Rattle.srecord.proofs.Judge.{record_fits}
+use Rattle.srecord.proofs.Judge.{result_cases, record_fits}
 
 -- a line names the byte at x
 unfoldable names : ℕ → Line → Bool
@@ -78,8 +78,8 @@ in_places (suc n) a x l h =
     (λ s. or_right (eqb x a) (is_in x (places (suc a) n)) (in_places n (suc a) x (omega arith) (omega arith)))
     (λ s. or_left (eqb x a) (is_in x (places (suc a) n)) (eq-eqb x a (omega arith)))
 
-line_fresh : (m x : ℕ) (s : Seen) (l : Line) → accepts_of (line_refusal m s l) ≡ true → is_in x s.named ≡ true → names x l ≡ false
-unfolding line_refusal names
+line_fresh : (m x : ℕ) (s : Seen) (l : Line) → is_ok (check_line m s l) ≡ true → is_in x s.named ≡ true → names x l ≡ false
+unfolding check_line names
 line_fresh m x s malformed h i = refl
 line_fresh m x s (holds t a d) h i =
     decide (is_data t && leb a x && ltb x (a + length d))
@@ -98,16 +98,16 @@ line_keeps x s (holds t a d) h =
     (λ e. rw e h)
 
 -- a good file: its first line is good, and the others after it
-pub verdict_cons : (m k : ℕ) (s : Seen) (l : List ℕ) (ls : List (List ℕ)) → accepts_of (verdict m s k (l ∷ ls)).refusal ≡ true
-    → (accepts_of (line_refusal m s (record_of l)) ≡ true) × (accepts_of (verdict m (after_line s (record_of l)) (k + 1) ls).refusal ≡ true)
+pub verdict_cons : (m k : ℕ) (s : Seen) (l : List ℕ) (ls : List (List ℕ)) → is_ok (verdict m s k (l ∷ ls)) ≡ true
+    → (is_ok (check_line m s (record_of l)) ≡ true) × (is_ok (verdict m (after_line s (record_of l)) (k + 1) ls) ≡ true)
 unfolding verdict
 verdict_cons m k s l ls h =
-    decide (accepts_of (line_refusal m s (record_of l)))
-    (λ e. (e, rw e at h))
-    (λ e. never (sym (rw e at h) ∙ e))
+    result_cases (check_line m s (record_of l))
+    (λ e. (ap is_ok e, rw e at h))
+    (λ r e. never (sym (rw e at h)))
 
 -- what was named is not named again
-never_again : (ls : List (List ℕ)) (m x k : ℕ) (s : Seen) → accepts_of (verdict m s k ls).refusal ≡ true → is_in x s.named ≡ true → names_any x ls ≡ false
+never_again : (ls : List (List ℕ)) (m x k : ℕ) (s : Seen) → is_ok (verdict m s k ls) ≡ true → is_in x s.named ≡ true → names_any x ls ≡ false
 unfolding names_any
 never_again [] m x k s h i = refl
 never_again (l ∷ ls) m x k s h i =
@@ -133,16 +133,16 @@ module _ (t a j : ℕ) (d : List ℕ) (data' : is_data t ≡ true) (j-lt : j < l
   unfolding after
   in_after s = rw data' (in_append (a + j) (places a (length d)) s.named ∙ or_left (is_in (a + j) (places a (length d))) (is_in (a + j) s.named) (in_places (length d) a (a + j) (omega arith) (omega arith)))
 
-  here : (m : List ℕ) (k : ℕ) (s : Seen) (ls : List (List ℕ)) → accepts_of (record_refusal (length m) s t a (length d)) ≡ true
-      → accepts_of (verdict (length m) (after s t a (length d)) k ls).refusal ≡ true → get_or (placed (put m (holds t a d)) ls) (a + j) 0 ≡ get_or d j 0
+  here : (m : List ℕ) (k : ℕ) (s : Seen) (ls : List (List ℕ)) → is_ok (check_record (length m) s t a (length d)) ≡ true
+      → is_ok (verdict (length m) (after s t a (length d)) k ls) ≡ true → get_or (placed (put m (holds t a d)) ls) (a + j) 0 ≡ get_or d j 0
   unfolding put
   here m k s ls h g =
       unnamed_stay ls (put m (holds t a d)) (a + j) (never_again ls (length m) (a + j) k (after s t a (length d)) g (in_after s))
       ∙ rw data' (stored_at d m a j j-lt ((record_fits (length m) t a (length d) s h data').inside (omega arith)))
 
-  stored : (i k : ℕ) (l : List ℕ) (ls : List (List ℕ)) (m : List ℕ) (s : Seen) → accepts_of (verdict (length m) s k (l ∷ ls)).refusal ≡ true → i < length (l ∷ ls)
+  stored : (i k : ℕ) (l : List ℕ) (ls : List (List ℕ)) (m : List ℕ) (s : Seen) → is_ok (verdict (length m) s k (l ∷ ls)) ≡ true → i < length (l ∷ ls)
       → record_of (get_or (l ∷ ls) i []) ≡ holds t a d → get_or (placed m (l ∷ ls)) (a + j) 0 ≡ get_or d j 0
-  unfolding placed line_refusal after_line
+  unfolding placed check_line after_line
   stored zero k l ls m s h b e =
       let q = verdict_cons (length m) k s l ls h in
       rw e (here m (k + 1) s ls (rw e at q.0) (rw e at q.1))
@@ -185,7 +185,7 @@ names_in : (x t a : ℕ) (d : List ℕ) → is_data t ≡ true → a ≤ x → x
 unfolding names
 names_in x t a d e l h = rw (e, le-leb a x l, lt-ltb x (a + length d) h)
 
-later : (i j k m x t a : ℕ) (d : List ℕ) (ls : List (List ℕ)) (s : Seen) → accepts_of (verdict m s k ls).refusal ≡ true → i < j → j < length ls
+later : (i j k m x t a : ℕ) (d : List ℕ) (ls : List (List ℕ)) (s : Seen) → is_ok (verdict m s k ls) ≡ true → i < j → j < length ls
     → record_of (get_or ls i []) ≡ holds t a d → is_data t ≡ true → a ≤ x → x < a + length d → names x (record_of (get_or ls j [])) ≡ false
 unfolding after_line
 later i j k m x t a d [] s h l b e g p q = absurd (omega arith)
@@ -198,9 +198,9 @@ later zero (suc j) k m x t a d (y ∷ ys) s h l b e g p q =
 later (suc i) (suc j) k m x t a d (y ∷ ys) s h l b e g p q =
     later i j (k + 1) m x t a d ys (after_line s (record_of y)) (verdict_cons m k s y ys h).1 (omega arith) (omega arith) e g p q
 
-inside : (i k m t a : ℕ) (d : List ℕ) (ls : List (List ℕ)) (s : Seen) → accepts_of (verdict m s k ls).refusal ≡ true → i < length ls
+inside : (i k m t a : ℕ) (d : List ℕ) (ls : List (List ℕ)) (s : Seen) → is_ok (verdict m s k ls) ≡ true → i < length ls
     → record_of (get_or ls i []) ≡ holds t a d → is_data t ≡ true → 0 < length d → a + length d ≤ m
-unfolding line_refusal
+unfolding check_line
 inside i k m t a d [] s h b e g p = absurd (omega arith)
 inside zero k m t a d (y ∷ ys) s h b e g p = (record_fits m t a (length d) s (rw e at (verdict_cons m k s y ys h).0) g).inside p
 inside (suc i) k m t a d (y ∷ ys) s h b e g p = inside i (k + 1) m t a d ys (after_line s (record_of y)) (verdict_cons m k s y ys h).1 (omega arith) e g p
@@ -211,27 +211,27 @@ placed_length [] m = refl
 placed_length (l ∷ ls) m = placed_length ls (put m (record_of l)) ∙ put_length m (record_of l)
 
 -- of any file: a refusal leaves the memory, and its length stays
-pub refused_stays : (m f : List ℕ) → accepts_of (read_of (length m) f).refusal ≡ false → memory_of m f ≡ m
+pub refused_stays : (m f : List ℕ) → is_ok (read_of (length m) f) ≡ false → memory_of m f ≡ m
 unfolding memory_of
 refused_stays m f h = rw h
 
 pub memory_length : (m f : List ℕ) → length (memory_of m f) ≡ length m
 unfolding memory_of
-memory_length m f = decide (accepts_of (read_of (length m) f).refusal) (λ e. rw e (placed_length (lines_of f) m)) (λ e. rw e)
+memory_length m f = decide (is_ok (read_of (length m) f)) (λ e. rw e (placed_length (lines_of f) m)) (λ e. rw e)
 
-pub read_lines : (m : ℕ) (f : List ℕ) → accepts_of (read_of m f).refusal ≡ true → accepts_of (verdict m start 1 (lines_of f)).refusal ≡ true
+pub read_lines : (m : ℕ) (f : List ℕ) → is_ok (read_of m f) ≡ true → is_ok (verdict m start 1 (lines_of f)) ≡ true
 unfolding read_of
 read_lines m f h =
     decide (sized_of m)
     (λ e. rw e at h)
     (λ e. never (sym (rw e at h)))
 
-pub read_sized : (m : ℕ) (f : List ℕ) → accepts_of (read_of m f).refusal ≡ true → sized_of m ≡ true
+pub read_sized : (m : ℕ) (f : List ℕ) → is_ok (read_of m f) ≡ true → sized_of m ≡ true
 unfolding read_of
 read_sized m f h = decide (sized_of m) (λ e. e) (λ e. never (sym (rw e at h)))
 
 -- of a file that is accepted
-module _ (m f : List ℕ) (ok : accepts_of (read_of (length m) f).refusal ≡ true) where
+module _ (m f : List ℕ) (ok : is_ok (read_of (length m) f) ≡ true) where
   memory_is : memory_of m f ≡ placed m (lines_of f)
   unfolding memory_of
   memory_is = rw ok
@@ -240,7 +240,7 @@ module _ (m f : List ℕ) (ok : accepts_of (read_of (length m) f).refusal ≡ tr
   pub named_stored : (i t a j : ℕ) (d : List ℕ) → Has f i t a d → j < length d → get_or (memory_of m f) (a + j) 0 ≡ get_or d j 0
   named_stored i t a j d h l = rw memory_is (by_lines (lines_of f) h.line h.record' (read_lines (length m) f ok))
     where
-      by_lines : (ls : List (List ℕ)) → i < length ls → record_of (get_or ls i []) ≡ holds t a d → accepts_of (verdict (length m) start 1 ls).refusal ≡ true
+      by_lines : (ls : List (List ℕ)) → i < length ls → record_of (get_or ls i []) ≡ holds t a d → is_ok (verdict (length m) start 1 ls) ≡ true
           → get_or (placed m ls) (a + j) 0 ≡ get_or d j 0
       by_lines [] b e v = absurd (omega arith)
       by_lines (y ∷ ys) b e v = stored t a j d h.data' l i 1 y ys m start v b e

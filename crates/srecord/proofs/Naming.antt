@@ -13,6 +13,7 @@ use borrow.Author.Tests.{eq-eqb, ne_eqb, eqb-true, eqb-false}
 use Rattle.word.specs.Bits.{bit_at, field_at}
 use Rattle.word.proofs.Below.{agree_at}
 use Rattle.word.proofs.ByBits.{bit_or_lem}
+use Rattle.word.proofs.Truth.{or_none}
 use Rattle.srecord.specs.Named.{is_named, naming, any_named, naming_all, StandsFor}
 use Rattle.srecord.specs.File.{places, is_in, any_in}
 use Rattle.srecord.proofs.Formed.{decide}
@@ -20,10 +21,6 @@ use Rattle.srecord.proofs.Formed.{decide}
 or_assoc : (a b c : Bool) → (a || (b || c)) ≡ ((a || b) || c)
 or_assoc true b c = refl
 or_assoc false b c = refl
-
-or_no : (a : Bool) → (a || false) ≡ a
-or_no true = refl
-or_no false = refl
 
 or_swap : (a b c : Bool) → (a || (b || c)) ≡ (b || (a || c))
 or_swap true true c = refl
@@ -33,7 +30,7 @@ or_swap false b c = refl
 or_comm : (a b : Bool) → (a || b) ≡ (b || a)
 or_comm true true = refl
 or_comm true false = refl
-or_comm false b = sym (or_no b)
+or_comm false b = sym (or_none b)
 
 -- the loop that names n bytes: one more, and none left
 pub any_more : (n p : ℕ) (b : Bool) (ws : List ℕ) → 0 < n → (b || any_named n ws p) ≡ ((b || is_named ws p) || any_named (n - 1) (naming ws p) (p + 1))
@@ -52,7 +49,7 @@ all_more (suc n) p ws h =
 
 pub any_end : (n p : ℕ) (b : Bool) (ws : List ℕ) → n ≡ 0 → (b || any_named n ws p) ≡ b
 unfolding any_named
-any_end n p b ws e = rw e (or_no b)
+any_end n p b ws e = rw e (or_none b)
 
 pub all_end : (n p : ℕ) (ws : List ℕ) → n ≡ 0 → naming_all n ws p ≡ ws
 unfolding naming_all

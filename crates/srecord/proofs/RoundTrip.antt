@@ -1,10 +1,10 @@
 -- Reading what was written gives the memory back. Assumes nothing.
 use Prim.Native.Nat.{ℕ, zero, suc, ◌+◌, ◌*◌, ◌-◌, ◌/◌, ◌%◌, ◌^◌, ◌≤◌, ◌<◌}
 use native.Mathlib.Omega.{arith}
-use mathlib.Core.Bool.{true, false, ◌||◌}
+use mathlib.Core.Bool.{true, false}
 use mathlib.Core.Path.{◌≡◌, refl, ap, sym, ◌∙◌}
 use mathlib.Core.List.{List, [], ◌∷◌, ◌++◌, append_assoc, append-nil}
-use lib.Dec.{lit≤, ltb, eqb}
+use lib.Dec.{lit≤, ltb, leb}
 use lib.ListN.{length, get_or, take, drop, length-append, length-drop}
 use lib.Seq.{sets, sets-eq, length-sets, get_or-drop, drop-drop, drop_at, take_at, take-add, take_all, length-take-le}
 use borrow.Author.Tests.{lt-ltb, le-leb, eq-eqb, ne_eqb, ltb-true, eqb-true}
@@ -15,14 +15,14 @@ use Rattle.srecord.specs.Found.{kind_at, address_at, data_at, size_at, line_end,
 use Rattle.memory.specs.Access.{sized_of}
 use Rattle.memory.specs.Store.{bytes_of}
 use Rattle.memory.proofs.Laws.{sized_bounds, sized_whole}
-use Rattle.machine.specs.Refusal.{accepts_of, unless}
+use Rattle.std.specs.Prelude.{Option, Some, None, Ok, is_ok}
+use Rattle.machine.specs.Refusal.{unless}
 use Rattle.machine.specs.declared.refusal.Refusal.{Refusal}
-use Rattle.machine.proofs.Refusals.{or_accepts, unless_accepts}
-use Rattle.srecord.specs.File.{Seen, start, places, is_in, any_in, data_refusal, end_refusal, record_refusal, after, good, verdict, placed, read_of, memory_of}
-use Rattle.srecord.specs.Write.{hex_digit, hexes, check_of, text_of, block_text, end_text, blocks, file_of, file_length, write_refusal, out_of}
+use Rattle.machine.proofs.Refusals.{and_accepts, unless_accepts}
+use Rattle.srecord.specs.File.{Seen, start, same_kind, ends_kind, places, is_in, any_in, check_data, check_end, check_record, after, good, verdict, placed, read_of, memory_of}
+use Rattle.srecord.specs.Write.{hex_digit, hexes, check_of, text_of, block_text, end_text, blocks, file_of, file_length, check_write, out_of}
 use Rattle.word.proofs.Truth.{and_true}
 use Rattle.word.proofs.Below.{same_at}
-use Rattle.srecord.proofs.Formed.{decide}
 use Rattle.srecord.proofs.Lines.{pair_shift, bytes_shift}
 use Rattle.srecord.proofs.Judge.{verdict_goes, placed_more}
 use Rattle.srecord.proofs.Text.{hexes_append, hexes_length, sum_append, file_length_lem}
@@ -159,10 +159,10 @@ module _ (t n a₁ a₂ a₃ a₄ : ℕ) (d zs : List ℕ) (w : width_of t ≡ 4
   long = omega arith
 
   -- the line is judged, and the others follow
-  pub text_verdict : (m k : ℕ) (s : Seen) → accepts_of (record_refusal m s t (number_from 0 (a₁ ∷ a₂ ∷ a₃ ∷ a₄ ∷ [])) (length d)) ≡ true
+  pub text_verdict : (m k : ℕ) (s : Seen) → check_record m s t (number_from 0 (a₁ ∷ a₂ ∷ a₃ ∷ a₄ ∷ [])) (length d) ≡ Ok tt
       → verdict m s k (lines_of (text_of t (n ∷ a₁ ∷ a₂ ∷ a₃ ∷ a₄ ∷ d) ++ zs)) ≡ verdict m (after s t (number_from 0 (a₁ ∷ a₂ ∷ a₃ ∷ a₄ ∷ [])) (length d)) (k + 1) (lines_of zs)
   text_verdict m k s h =
-      let r : accepts_of (record_refusal m s (kind_at X 0) (address_at X 0) (size_at X 0)) ≡ true = rw (kind_is, address_is, size_is) h in
+      let r : check_record m s (kind_at X 0) (address_at X 0) (size_at X 0) ≡ Ok tt = rw (kind_is, address_is, size_is) h in
       rw text_is (verdict_goes m 0 k s X long formed_is r ∙ rw (kind_is, address_is, size_is, after_is))
 
   pub text_placed : (m : List ℕ) → placed m (lines_of (text_of t (n ∷ a₁ ∷ a₂ ∷ a₃ ∷ a₄ ∷ d) ++ zs)) ≡ placed (pick (is_data t) (sets m (number_from 0 (a₁ ∷ a₂ ∷ a₃ ∷ a₄ ∷ [])) d) m) (lines_of zs)
@@ -216,7 +216,7 @@ module _ (a : ℕ) (m zs : List ℕ) (low : a < 2 ^ 32) (inside : a + 32 ≤ len
   block_five : length (take 32 (drop a m)) + 5 ≡ 37
   block_five = omega (arith, block_len)
 
-  block_verdict : (n k : ℕ) (s : Seen) → accepts_of (record_refusal n s 3 a 32) ≡ true → verdict n s k (lines_of (block_text a m ++ zs)) ≡ verdict n (after s 3 a 32) (k + 1) (lines_of zs)
+  block_verdict : (n k : ℕ) (s : Seen) → check_record n s 3 a 32 ≡ Ok tt → verdict n s k (lines_of (block_text a m ++ zs)) ≡ verdict n (after s 3 a 32) (k + 1) (lines_of zs)
   unfolding block_text bytes_of
   block_verdict n k s h =
       rw (address_back a low, block_len) at
@@ -232,7 +232,7 @@ zero_all : all_bytes (0 ∷ 0 ∷ 0 ∷ 0 ∷ []) ≡ true
 unfolding all_bytes
 zero_all = refl
 
-end_verdict : (n k : ℕ) (s : Seen) → accepts_of (record_refusal n s 7 (number_from 0 (0 ∷ 0 ∷ 0 ∷ 0 ∷ [])) 0) ≡ true → verdict n s k (lines_of (end_text ++ [])) ≡ good
+end_verdict : (n k : ℕ) (s : Seen) → check_record n s 7 (number_from 0 (0 ∷ 0 ∷ 0 ∷ 0 ∷ [])) 0 ≡ Ok tt → verdict n s k (lines_of (end_text ++ [])) ≡ good
 unfolding end_text bytes_of verdict lines_of after
 end_verdict n k s h = text_verdict 7 5 0 0 0 0 [] [] width_7 room_7 refl (lit≤ tt) zero_all n k s h
 
@@ -242,7 +242,7 @@ end_placed x = text_placed 7 5 0 0 0 0 [] [] width_7 room_7 refl (lit≤ tt) zer
 
 -- what has been seen when the blocks before a have been read
 record Reading (s : Seen) (a : ℕ) : Type 0 where
-  pub kind : (eqb s.kind 0 || eqb s.kind 3) ≡ true
+  pub kind : same_kind s.kind 3 ≡ true
   pub going : s.ended ≡ false
   pub named : (x : ℕ) → a ≤ x → is_in x s.named ≡ false
 
@@ -256,22 +256,20 @@ unfolding places is_in
 past_in zero a x xs l h = h
 past_in (suc n) a x xs l h = rw (ne_eqb x a (λ e. absurd (omega arith))) (past_in n (suc a) x xs (omega arith) h)
 
-block_fine : (n a : ℕ) (s : Seen) → Reading s a → a + 32 ≤ n → accepts_of (record_refusal n s 3 a 32) ≡ true
-unfolding record_refusal data_refusal
+block_fine : (n a : ℕ) (s : Seen) → Reading s a → a + 32 ≤ n → check_record n s 3 a 32 ≡ Ok tt
+unfolding check_record check_data
 block_fine n a s r l = rw (r.going, r.kind, le-leb (a + 32) n l, none_in 32 a s.named r.named)
 
 block_after : (a : ℕ) (s : Seen) → Reading s a → Reading (after s 3 a 32) (a + 32)
 unfolding after
 block_after a s r = record { kind = refl; going = refl; named = λ x l. past_in 32 a x s.named l (r.named x (omega arith)) }
 
-end_kind : (k : ℕ) → (eqb k 0 || eqb k 3) ≡ true → (eqb k 0 || eqb (k + 7) 10) ≡ true
-end_kind k h =
-    decide (eqb k 0)
-    (λ e. rw e)
-    (λ e. let z = eqb-true k 3 (rw e at h) in rw (e, eq-eqb (k + 7) 10 (omega arith)))
+end_kind : (k : Option ℕ) → same_kind k 3 ≡ true → ends_kind k 7 ≡ true
+end_kind None h = refl
+end_kind (Some k) h = let z = eqb-true k 3 h in eq-eqb (k + 7) 10 (omega arith)
 
-end_fine : (n a v : ℕ) (s : Seen) → Reading s a → accepts_of (record_refusal n s 7 v 0) ≡ true
-unfolding record_refusal end_refusal
+end_fine : (n a v : ℕ) (s : Seen) → Reading s a → check_record n s 7 v 0 ≡ Ok tt
+unfolding check_record check_end
 end_fine n a v s r = rw (r.going, end_kind s.kind r.kind)
 
 module _ (m : List ℕ) (size : length m ≤ 1048576) (bytes : (k : ℕ) → get_or m k 0 < 256) where
@@ -320,9 +318,9 @@ file_reads m x h b l =
     )
 
 -- and so is what the writer leaves in an output that takes it
-pub written_reads : (m x out : List ℕ) → accepts_of (write_refusal (length m) (length out)) ≡ true → ((k : ℕ) → get_or m k 0 < 256) → length x ≡ length m
+pub written_reads : (m x out : List ℕ) → is_ok (check_write (length m) (length out)) ≡ true → ((k : ℕ) → get_or m k 0 < 256) → length x ≡ length m
     → (read_of (length x) (take (file_length (length m)) (out_of m out)) ≡ good) × (memory_of x (take (file_length (length m)) (out_of m out)) ≡ m)
-unfolding out_of write_refusal
+unfolding out_of check_write
 written_reads m x out w b l =
-    let h = unless_accepts (sized_of (length m)) Refusal.Memory refl (or_accepts (unless (sized_of (length m)) Refusal.Memory) _ w).0 in
+    let h = unless_accepts (sized_of (length m)) Refusal.Memory (and_accepts (unless (sized_of (length m)) Refusal.Memory) (unless (leb (file_length (length m)) (length out)) Refusal.Output) w).0 in
     rw (w, take_at (file_of m) (drop (file_length (length m)) out) (file_length (length m)) (file_length_lem m)) (file_reads m x h b l)

@@ -1,20 +1,24 @@
 -- Laws of bytes spelt in hex. Assumes nothing.
 use Prim.Native.Nat.{ℕ, zero, suc, ◌+◌, ◌*◌, ◌-◌, ◌%◌, ◌≤◌, ◌<◌}
 use native.Mathlib.Omega.{arith}
-use native.Mathlib.Nat.{add_assoc, zero-add}
-use mathlib.Core.Bool.{true, ◌&&◌}
-use mathlib.Core.Path.{◌≡◌}
+use native.Mathlib.Nat.{add_assoc, add-zero}
+use mathlib.Core.Bool.{Bool, true, false, ◌&&◌}
+use mathlib.Core.Path.{◌≡◌, refl, ap}
 use mathlib.Core.List.{List, ◌∷◌}
 use lib.Bits.{bit_or}
-use lib.Dec.{ltb, lit≤}
-use lib.ListN.{set}
+use lib.Dec.{ltb, eqb, lit≤}
+use lib.ListN.{set, get_or}
 use lib.Seq.{sets}
 use native.Mathlib.Numerals.{add-one}
 use Rattle.word.proofs.Truth.{and_true}
 use Rattle.word.proofs.Below.{same_at}
-use borrow.Author.Tests.{lt-ltb, le-ltb, ltb-true}
+use borrow.Author.Tests.{lt-ltb, le-ltb, ltb-true, eqb-true, eqb-false, ne_eqb}
 use Rattle.memory.specs.Access.{pick}
-use Rattle.srecord.specs.Hex.{letter_of, digit_of, pair_at, bytes_at, all_bytes, sum_of, number_from}
+use Rattle.std.specs.Bool.{then_some}
+use Rattle.std.specs.Prelude.{Option, Some, None}
+use Rattle.srecord.specs.Hex.{letter_of, digit_of, joined, pair_at, bytes_at, all_bytes, sum_of, number_from}
+use Rattle.srecord.specs.Found.{some_but}
+use Rattle.srecord.proofs.Formed.{decide}
 
 -- the code's value of a letter and of a digit, at all 256 characters
 abbrev letter_from : ℕ → ℕ
@@ -49,9 +53,32 @@ digit_no c h l = rw (le-ltb (digit_at c) 10 l) at (digits c h)
 pub both_digits : (h l : ℕ) → (ltb h 16 && ltb l 16) ≡ true → (h < 16) × (l < 16)
 both_digits h l e = let q = and_true (ltb h 16) (ltb l 16) e in (ltb-true h 16 q.0, ltb-true l 16 q.1)
 
--- the sum so far with what is left, or what says that there is none
-abbrev pub summed : ℕ → List ℕ → ℕ
-summed v bs = pick (all_bytes bs) (v + sum_of bs) 65536
+-- a value where a test holds
+pub some_where : {A : Type 0} (b : Bool) (x : A) → then_some b x ≡ pick b (Some x) None
+some_where true x = refl
+some_where false x = refl
+
+-- a number that may stand for none
+but_cases : (none n : ℕ) (b : Bool) → eqb n none ≡ b → pick b None (Some n) ≡ None → n ≡ none
+but_cases none n true e h = eqb-true n none e
+but_cases none n false e h = cc
+
+pub but_none : (none n : ℕ) → some_but none n ≡ None → n ≡ none
+but_none none n h = but_cases none n (eqb n none) refl h
+
+some_cases : (none n v : ℕ) (b : Bool) → eqb n none ≡ b → pick b None (Some n) ≡ Some v → (n ≡ v) × (n ≡ none → ⊥)
+some_cases none n v true e h = let z : ◌≡◌ {A = ℕ} 0 1 = cc in absurd (omega arith)
+some_cases none n v false e h = (cc, eqb-false n none e)
+
+pub but_some : (none n v : ℕ) → some_but none n ≡ Some v → (n ≡ v) × (n ≡ none → ⊥)
+but_some none n v h = some_cases none n v (eqb n none) refl h
+
+pub pair_le : (p : ℕ) (f : List ℕ) → pair_at f p ≤ 256
+unfolding pair_at joined
+pair_le p f =
+    decide (ltb (digit_of (get_or f p 0)) 16 && ltb (digit_of (get_or f (p + 1) 0)) 16)
+    (λ e. rw e (omega (arith, both_digits (digit_of (get_or f p 0)) (digit_of (get_or f (p + 1) 0)) e)))
+    (λ e. rw e (omega arith))
 
 pub bytes_more : (n p : ℕ) (f : List ℕ) → 0 < n → bytes_at n f p ≡ pair_at f p ∷ bytes_at (n - 1) f (p + 2)
 unfolding bytes_at
@@ -60,38 +87,81 @@ bytes_more (suc n) p f h =
     let e : suc n - 1 ≡ n = omega arith in
     rw e
 
-pub sum_start : (bs : List ℕ) → pick (all_bytes bs) (sum_of bs) 65536 ≡ summed 0 bs
-sum_start bs = rw zero-add
+-- the byte that two digits spell, or none
+pub pair_yes : (h l : ℕ) → (ltb h 16 && ltb l 16) ≡ true → Some (h * 16 + l) ≡ some_but 256 (joined h l)
+unfolding joined
+pair_yes h l e = let q = both_digits h l e in rw (e, ne_eqb (h * 16 + l) 256 (λ z. absurd (omega arith)))
 
-pub sum_more : (v n p : ℕ) (f : List ℕ) → 0 < n → pair_at f p < 256 → summed v (bytes_at n f p) ≡ summed (v + pair_at f p) (bytes_at (n - 1) f (p + 2))
+pub pair_no : (h l : ℕ) → (ltb h 16 && ltb l 16) ≡ false → None ≡ some_but 256 (joined h l)
+unfolding joined
+pair_no h l e = rw e
+
+-- a byte that is spelt
+pub byte_is : (p v : ℕ) (f : List ℕ) → some_but 256 (pair_at f p) ≡ Some v → (pair_at f p ≡ v) × (v < 256)
+byte_is p v f h = let q = but_some 256 (pair_at f p) v h in (q.0, omega (arith, pair_le p f, q.1))
+
+-- the sum so far with what is left, or none
+abbrev pub summed : ℕ → List ℕ → Option ℕ
+summed v bs = pick (all_bytes bs) (Some (v + sum_of bs)) None
+
+pub sum_more : (v n p b : ℕ) (f : List ℕ) → 0 < n → some_but 256 (pair_at f p) ≡ Some b → summed v (bytes_at n f p) ≡ summed (v + b) (bytes_at (n - 1) f (p + 2))
 unfolding all_bytes sum_of
-sum_more v n p f h l = rw (bytes_more n p f h, lt-ltb (pair_at f p) 256 l, add_assoc)
+sum_more v n p b f h e = let q = byte_is p b f e in rw (bytes_more n p f h, q.0, lt-ltb b 256 q.1, add_assoc)
 
-pub sum_stop : (v n p : ℕ) (f : List ℕ) → 0 < n → 256 ≤ pair_at f p → summed v (bytes_at n f p) ≡ 65536
+pub sum_stop : (v n p : ℕ) (f : List ℕ) → 0 < n → some_but 256 (pair_at f p) ≡ None → summed v (bytes_at n f p) ≡ None
 unfolding all_bytes sum_of
-sum_stop v n p f h l = rw (bytes_more n p f h, le-ltb (pair_at f p) 256 l)
+sum_stop v n p f h e = rw (bytes_more n p f h, but_none 256 (pair_at f p) e)
 
-pub sum_end : (v n p : ℕ) (f : List ℕ) → n ≡ 0 → summed v (bytes_at n f p) ≡ v
+pub sum_end : (v n p : ℕ) (f : List ℕ) → n ≡ 0 → summed v (bytes_at n f p) ≡ Some v
 unfolding all_bytes sum_of bytes_at
-sum_end v n p f e = rw e (omega arith)
+sum_end v n p f e = rw e (ap Some (add-zero v))
 
-pub number_two : (w p : ℕ) (f : List ℕ) → w ≡ 2 → pair_at f p * 256 + pair_at f (p + 2) ≡ number_from 0 (bytes_at w f p)
-unfolding number_from bytes_at
-number_two w p f e = rw e (omega arith)
+-- one byte more, from the k-th of n
+pub summed_step : (v n k at b : ℕ) (f : List ℕ) → k < n → some_but 256 (pair_at f (at + 2 * k)) ≡ Some b
+    → summed v (bytes_at (n - k) f (at + 2 * k)) ≡ summed (v + b) (bytes_at (n - (k + 1)) f (at + 2 * (k + 1)))
+summed_step v n k at b f h e =
+    let x : n - (k + 1) ≡ n - k - 1 = omega arith in
+    let y : at + 2 * (k + 1) ≡ at + 2 * k + 2 = omega arith in
+    rw (x, y) (sum_more v (n - k) (at + 2 * k) b f (omega arith) e)
 
-pub number_three : (w p : ℕ) (f : List ℕ) → w ≡ 3 → (pair_at f p * 256 + pair_at f (p + 2)) * 256 + pair_at f (p + 4) ≡ number_from 0 (bytes_at w f p)
-unfolding number_from bytes_at
-number_three w p f e =
-    let a : p + 4 ≡ p + 2 + 2 = omega arith in
-    rw (e, a) (omega arith)
+-- and the number
+abbrev pub numbered : ℕ → List ℕ → Option ℕ
+numbered v bs = pick (all_bytes bs) (Some (number_from v bs)) None
 
-pub number_four : (w p : ℕ) (f : List ℕ) → w ≡ 4
-    → ((pair_at f p * 256 + pair_at f (p + 2)) * 256 + pair_at f (p + 4)) * 256 + pair_at f (p + 6) ≡ number_from 0 (bytes_at w f p)
-unfolding number_from bytes_at
-number_four w p f e =
-    let a : p + 4 ≡ p + 2 + 2 = omega arith in
-    let b : p + 6 ≡ p + 2 + 2 + 2 = omega arith in
-    rw (e, a, b) (omega arith)
+pub number_more : (v n p b : ℕ) (f : List ℕ) → 0 < n → some_but 256 (pair_at f p) ≡ Some b → numbered v (bytes_at n f p) ≡ numbered (v * 256 + b) (bytes_at (n - 1) f (p + 2))
+unfolding all_bytes number_from
+number_more v n p b f h e = let q = byte_is p b f e in rw (bytes_more n p f h, q.0, lt-ltb b 256 q.1)
+
+pub number_stop : (v n p : ℕ) (f : List ℕ) → 0 < n → some_but 256 (pair_at f p) ≡ None → numbered v (bytes_at n f p) ≡ None
+unfolding all_bytes
+number_stop v n p f h e = rw (bytes_more n p f h, but_none 256 (pair_at f p) e)
+
+pub number_end : (v n p : ℕ) (f : List ℕ) → n ≡ 0 → numbered v (bytes_at n f p) ≡ Some v
+unfolding all_bytes number_from bytes_at
+number_end v n p f e = rw e
+
+pub numbered_step : (v n k at b : ℕ) (f : List ℕ) → k < n → some_but 256 (pair_at f (at + 2 * k)) ≡ Some b
+    → numbered v (bytes_at (n - k) f (at + 2 * k)) ≡ numbered (v * 256 + b) (bytes_at (n - (k + 1)) f (at + 2 * (k + 1)))
+numbered_step v n k at b f h e =
+    let x : n - (k + 1) ≡ n - k - 1 = omega arith in
+    let y : at + 2 * (k + 1) ≡ at + 2 * k + 2 = omega arith in
+    rw (x, y) (number_more v (n - k) (at + 2 * k) b f (omega arith) e)
+
+-- what k bytes can spell is below this
+abbrev pub limit : ℕ → ℕ
+limit zero = 1
+limit (suc k) = limit k * 256
+
+pub limit_more : (k v b : ℕ) → v < limit k → b < 256 → v * 256 + b < limit (suc k)
+limit_more k v b h l = omega arith
+
+pub limit_le : (k : ℕ) → k ≤ 4 → limit k ≤ 4294967296
+limit_le zero h = lit≤ tt
+limit_le (suc zero) h = lit≤ tt
+limit_le (suc (suc zero)) h = lit≤ tt
+limit_le (suc (suc (suc zero))) h = lit≤ tt
+limit_le (suc (suc (suc (suc zero)))) h = lit≤ tt
+limit_le (suc (suc (suc (suc (suc k))))) h = absurd (omega arith)
 
 -- the byte that comes next, and those left
 pub spelt_more : (n p : ℕ) (f : List ℕ) → 0 < n → all_bytes (bytes_at n f p) ≡ true → (pair_at f p < 256) × (all_bytes (bytes_at (n - 1) f (p + 2)) ≡ true)

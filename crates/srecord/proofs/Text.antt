@@ -7,7 +7,7 @@ use mathlib.Core.List.{List, [], ◌∷◌, ◌++◌}
 use lib.ListN.{length, get_or, take, drop, set, length-append, length-drop, drop_of_length-le}
 use lib.Seq.{sets, sets-eq, drop-cons, length-take-le}
 use Rattle.srecord.specs.Hex.{sum_of}
-use Rattle.srecord.specs.Write.{hex_digit, hexes, check_of, text_of, block_text, end_text, blocks, file_of, write_refusal, written_of, out_of}
+use Rattle.srecord.specs.Write.{hex_digit, hexes, check_of, text_of, block_text, end_text, blocks, file_of, check_write, written_of, out_of}
 use Rattle.word.specs.declared.width.Width.{Width}
 use Rattle.memory.specs.Access.{sized_of}
 use Rattle.memory.specs.Store.{bytes_of}
@@ -15,6 +15,8 @@ use Rattle.memory.proofs.Laws.{sets_at}
 use Rattle.machine.specs.declared.refusal.Refusal.{Refusal}
 use borrow.Author.Tests.{lt-leb, le-leb}
 use mathlib.Core.Bool.{true, false}
+use Rattle.std.specs.Prelude.{Ok, Err}
+use Rattle.std.specs.List.{fold, sum}
 
 pub hex_more : (i q : ℕ) (bs out : List ℕ) → i < length bs
     → sets out q (hexes (drop i bs)) ≡ sets (set (set out q (hex_digit (get_or bs i 0 / 16))) (q + 1) (hex_digit (get_or bs i 0 % 16))) (q + 2) (hexes (drop (i + 1) bs))
@@ -27,13 +29,19 @@ pub hex_end : (i q : ℕ) (bs out : List ℕ) → length bs ≤ i → sets out q
 unfolding hexes
 hex_end i q bs out h = rw (drop_of_length-le bs {i = i} h)
 
-pub sum_next : (i v : ℕ) (bs : List ℕ) → i < length bs → v + sum_of (drop i bs) ≡ v + get_or bs i 0 + sum_of (drop (i + 1) bs)
+sum_from : (v : ℕ) (bs : List ℕ) → fold ◌+◌ v bs ≡ v + sum_of bs
 unfolding sum_of
-sum_next i v bs h = rw (drop-cons bs i 0 h, add-one) (omega arith)
+sum_from v [] = omega arith
+sum_from v (b ∷ bs) = omega (arith, sum_from (v + b) bs)
 
-pub sum_over : (i v : ℕ) (bs : List ℕ) → length bs ≤ i → v + sum_of (drop i bs) ≡ v
+pub sum_is : (bs : List ℕ) → sum bs ≡ sum_of bs
+sum_is bs = omega (arith, sum_from 0 bs)
+
+-- bytes are below 256
+pub sum_le : (bs : List ℕ) → ((i : ℕ) → get_or bs i 0 < 256) → sum_of bs ≤ 255 * length bs
 unfolding sum_of
-sum_over i v bs h = rw (drop_of_length-le bs {i = i} h) (omega arith)
+sum_le [] h = omega arith
+sum_le (b ∷ bs) h = omega (arith, h 0, sum_le bs (λ i. h (suc i)))
 
 pub sum_append : (xs ys : List ℕ) → sum_of (xs ++ ys) ≡ sum_of xs + sum_of ys
 unfolding sum_of
@@ -122,16 +130,16 @@ file_left m out h =
 
 -- the writer's answer, a way through the code each
 module _ (m out : List ℕ) where
-  pub write_unsized : sized_of (length m) ≡ false → (record { refusal = Refusal.Memory; bytes = 0 } ≡ written_of m out) × (out ≡ out_of m out)
-  unfolding write_refusal written_of out_of
+  pub write_unsized : sized_of (length m) ≡ false → (Err Refusal.Memory ≡ written_of m out) × (out ≡ out_of m out)
+  unfolding check_write written_of out_of
   write_unsized h = (rw h, rw h)
 
   module _ (h : sized_of (length m) ≡ true) where
-    pub write_short : length out < 79 * (length m / 32) + 15 → (record { refusal = Refusal.Output; bytes = 0 } ≡ written_of m out) × (out ≡ out_of m out)
-    unfolding write_refusal written_of out_of
+    pub write_short : length out < 79 * (length m / 32) + 15 → (Err Refusal.Output ≡ written_of m out) × (out ≡ out_of m out)
+    unfolding check_write written_of out_of
     write_short l = let e = lt-leb (79 * (length m / 32) + 15) (length out) l in (rw (h, e), rw (h, e))
 
     pub write_whole : 79 * (length m / 32) + 15 ≤ length out
-        → (record { refusal = Refusal.None; bytes = 79 * (length m / 32) + 15 } ≡ written_of m out) × (file_of m ++ drop (79 * (length m / 32) + 15) out ≡ out_of m out)
-    unfolding write_refusal written_of out_of
+        → (Ok (79 * (length m / 32) + 15) ≡ written_of m out) × (file_of m ++ drop (79 * (length m / 32) + 15) out ≡ out_of m out)
+    unfolding check_write written_of out_of
     write_whole l = let e = le-leb (79 * (length m / 32) + 15) (length out) l in (rw (h, e), rw (h, e))

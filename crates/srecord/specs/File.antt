@@ -1,11 +1,12 @@
 -- What a file means: the first line that is refused, or the memory that its records give (C-15; docs/DECISIONS.md D43).
-use Rattle.std.specs.Prelude.{ℕ, zero, suc, ◌+◌, Bool, false, not, ◌||◌, List, [], ◌∷◌, ◌++◌, leb, eqb, length}
+use Rattle.std.specs.Prelude.{ℕ, zero, suc, ◌+◌, Bool, true, false, not, ◌||◌, List, [], ◌∷◌, ◌++◌, leb, eqb, length, Option, Some, None, Result, Ok, Err, is_ok}
+use Rattle.std.specs.Result.{result_and}
 use Rattle.std.proofs.lemmas.List.Edits.{sets}
 use Rattle.memory.specs.Access.{pick, sized_of}
-use Rattle.machine.specs.Refusal.{accepts_of, unless, or_else}
+use Rattle.machine.specs.Refusal.{Checked, unless}
 use Rattle.machine.specs.declared.refusal.Refusal.{Refusal}
 use Rattle.srecord.specs.Record.{Line, malformed, holds, is_data, is_end, lines_of, record_of}
-use Rattle.srecord.specs.declared.check.Verdict.{Verdict}
+use Rattle.srecord.specs.declared.check.Rejected.{Rejected}
 
 -- n addresses from a on
 unfoldable pub places : ℕ → ℕ → List ℕ
@@ -22,47 +23,57 @@ unfoldable pub any_in : List ℕ → List ℕ → Bool
 any_in [] ys = false
 any_in (x ∷ xs) ys = is_in x ys || any_in xs ys
 
--- what the lines so far were: the type of their data records (0: there were none), how many there were, the addresses that they
+-- what the lines so far were: the type of their data records, if there were any, how many there were, the addresses that they
 -- named, and whether the last line was an end record
 pub record Seen : Type 0 where
-  pub kind : ℕ
+  pub kind : Option ℕ
   pub count : ℕ
   pub named : List ℕ
   pub ended : Bool
 
 abbrev pub start : Seen
-start = record { kind = 0; count = 0; named = []; ended = false }
+start = record { kind = None; count = 0; named = []; ended = false }
+
+-- data of type t may follow
+abbrev pub same_kind : Option ℕ → ℕ → Bool
+same_kind None t = true
+same_kind (Some k) t = eqb k t
+
+-- an end of type t may follow: S9 for S1, S8 for S2, S7 for S3; with no data any
+abbrev pub ends_kind : Option ℕ → ℕ → Bool
+ends_kind None t = true
+ends_kind (Some k) t = eqb (k + t) 10
 
 -- n bytes of type t from address a on, in m bytes of memory: 13 of another type, 14 outside, 15 named before
-unfoldable pub data_refusal : ℕ → Seen → ℕ → ℕ → ℕ → Refusal
-data_refusal m s t a n =
-    or_else (unless (eqb s.kind 0 || eqb s.kind t) Refusal.Record)
-    (or_else (unless (eqb n 0 || leb (a + n) m) Refusal.Outside) (unless (not (any_in (places a n) s.named)) Refusal.Twice))
+unfoldable pub check_data : ℕ → Seen → ℕ → ℕ → ℕ → Checked
+check_data m s t a n =
+    result_and (unless (same_kind s.kind t) Refusal.Record)
+    (result_and (unless (eqb n 0 || leb (a + n) m) Refusal.Outside) (unless (not (any_in (places a n) s.named)) Refusal.Twice))
 
--- 16 unless the end fits the data, S9 to S1, S8 to S2, S7 to S3; with no data any fits
-unfoldable pub end_refusal : Seen → ℕ → Refusal
-end_refusal s t = unless (eqb s.kind 0 || eqb (s.kind + t) 10) Refusal.End
+-- 16 unless the end fits the data
+unfoldable pub check_end : Seen → ℕ → Checked
+check_end s t = unless (ends_kind s.kind t) Refusal.End
 
 -- 17 unless an S5 counts the data records before it
-unfoldable pub count_refusal : Seen → ℕ → Refusal
-count_refusal s a = unless (eqb a s.count) Refusal.Count
+unfoldable pub check_count : Seen → ℕ → Checked
+check_count s a = unless (eqb a s.count) Refusal.Count
 
 -- a record of type t with n bytes of data: 13 after the end record; then what its type asks
-unfoldable pub record_refusal : ℕ → Seen → ℕ → ℕ → ℕ → Refusal
-record_refusal m s t a n =
-    or_else (unless (not s.ended) Refusal.Record)
-    (pick (is_data t) (data_refusal m s t a n) (pick (is_end t) (end_refusal s t) (pick (eqb t 5) (count_refusal s a) Refusal.None)))
+unfoldable pub check_record : ℕ → Seen → ℕ → ℕ → ℕ → Checked
+check_record m s t a n =
+    result_and (unless (not s.ended) Refusal.Record)
+    (pick (is_data t) (check_data m s t a n) (pick (is_end t) (check_end s t) (pick (eqb t 5) (check_count s a) (Ok tt))))
 
 -- 13 for a line that holds no record
-unfoldable pub line_refusal : ℕ → Seen → Line → Refusal
-line_refusal m s malformed = Refusal.Record
-line_refusal m s (holds t a d) = record_refusal m s t a (length d)
+unfoldable pub check_line : ℕ → Seen → Line → Checked
+check_line m s malformed = Err Refusal.Record
+check_line m s (holds t a d) = check_record m s t a (length d)
 
 -- what was seen once a record was, too
 unfoldable pub after : Seen → ℕ → ℕ → ℕ → Seen
 after s t a n =
     record {
-      kind = pick (is_data t) t s.kind;
+      kind = pick (is_data t) (Some t) s.kind;
       count = pick (is_data t) (s.count + 1) s.count;
       named = pick (is_data t) (places a n ++ s.named) s.named;
       ended = is_end t;
@@ -72,21 +83,29 @@ unfoldable pub after_line : Seen → Line → Seen
 after_line s malformed = s
 after_line s (holds t a d) = after s t a (length d)
 
+-- what is answered of a file: the refusal and the line that it is given for, if it is refused
+abbrev pub Verdict : Type 0
+Verdict = Result (Unit {0}) Rejected
+
 -- line k is refused
 abbrev pub refused_at : ℕ → Refusal → Verdict
-refused_at k r = record { refusal = r; line = k }
+refused_at k r = Err (record { refusal = r; line = k })
 
 -- nothing is refused
 abbrev pub good : Verdict
-good = refused_at 0 Refusal.None
+good = Ok tt
+
+-- a check of line k
+abbrev pub at_line : ℕ → Checked → Verdict
+at_line k (Ok u) = good
+at_line k (Err r) = refused_at k r
 
 -- of the lines from the k-th on, the first that is refused; a missing end counts as the line after the last
 unfoldable pub verdict : ℕ → Seen → ℕ → List (List ℕ) → Verdict
 verdict m s k [] = pick s.ended good (refused_at k Refusal.End)
 verdict m s k (l ∷ ls) =
     let v = verdict m (after_line s (record_of l)) (k + 1) ls in
-    let r = line_refusal m s (record_of l) in
-    pick (accepts_of r) v (refused_at k r)
+    result_and (at_line k (check_line m s (record_of l))) v
 
 -- memory with a data record's bytes at their addresses
 unfoldable pub put : List ℕ → Line → List ℕ
@@ -104,4 +123,4 @@ read_of m f = pick (sized_of m) (verdict m start 1 (lines_of f)) (refused_at 0 R
 
 -- the memory after it; refused, as it was
 unfoldable pub memory_of : List ℕ → List ℕ → List ℕ
-memory_of m f = pick (accepts_of (read_of (length m) f).refusal) (placed m (lines_of f)) m
+memory_of m f = pick (is_ok (read_of (length m) f)) (placed m (lines_of f)) m

@@ -1,12 +1,12 @@
 -- The file that is written of a memory (C-15), and what is answered and left in the output.
-use Rattle.std.specs.Prelude.{ℕ, zero, suc, ◌+◌, ◌*◌, ◌-◌, ◌/◌, ◌%◌, List, [], ◌∷◌, ◌++◌, ltb, leb, length, take, drop}
+use Rattle.std.specs.Prelude.{ℕ, zero, suc, ◌+◌, ◌*◌, ◌-◌, ◌/◌, ◌%◌, List, [], ◌∷◌, ◌++◌, ltb, leb, length, take, drop, Result, Ok, is_ok}
+use Rattle.std.specs.Result.{result_and}
 use Rattle.word.specs.declared.width.Width.{Width}
 use Rattle.memory.specs.Access.{pick, sized_of}
 use Rattle.memory.specs.Store.{bytes_of}
-use Rattle.machine.specs.Refusal.{accepts_of, unless, or_else}
+use Rattle.machine.specs.Refusal.{Checked, unless}
 use Rattle.machine.specs.declared.refusal.Refusal.{Refusal}
 use Rattle.srecord.specs.Hex.{sum_of}
-use Rattle.srecord.specs.declared.write.Written.{Written}
 
 -- upper-case hex
 unfoldable pub hex_digit : ℕ → ℕ
@@ -45,14 +45,13 @@ abbrev pub file_length : ℕ → ℕ
 file_length m = 79 * (m / 32) + 15
 
 -- writing m bytes of memory into n of output checks 1, 8
-unfoldable pub write_refusal : ℕ → ℕ → Refusal
-write_refusal m n = or_else (unless (sized_of m) Refusal.Memory) (unless (leb (file_length m) n) Refusal.Output)
+unfoldable pub check_write : ℕ → ℕ → Checked
+check_write m n = result_and (unless (sized_of m) Refusal.Memory) (unless (leb (file_length m) n) Refusal.Output)
 
--- the refusal, and how many bytes were written; refused, none
-unfoldable pub written_of : List ℕ → List ℕ → Written
-written_of m out =
-    record { refusal = write_refusal (length m) (length out); bytes = pick (accepts_of (write_refusal (length m) (length out))) (file_length (length m)) 0 }
+-- how many bytes were written, or the refusal
+unfoldable pub written_of : List ℕ → List ℕ → Result ℕ Refusal
+written_of m out = result_and (check_write (length m) (length out)) (Ok (file_length (length m)))
 
 -- the output with the file in front and the rest as it was; refused, as it was
 unfoldable pub out_of : List ℕ → List ℕ → List ℕ
-out_of m out = pick (accepts_of (write_refusal (length m) (length out))) (file_of m ++ drop (file_length (length m)) out) out
+out_of m out = pick (is_ok (check_write (length m) (length out))) (file_of m ++ drop (file_length (length m)) out) out

@@ -1,133 +1,118 @@
 // A line of a lent file, and the record that it holds.
-ghost use Rattle.std.specs.Prelude.{◌≡◌, ◌+◌, ◌-◌, ◌*◌, ◌≤◌, ◌<◌, length};
-ghost use Rattle.srecord.specs.Record.{width_of, room_for, ends_at, headed_at, formed_at};
-ghost use Rattle.srecord.specs.Found.{line_end, found_of};
+ghost use Rattle.std.specs.Prelude.{◌≡◌, ◌+◌, ◌*◌, ◌≤◌, ◌<◌, leb, ltb, eqb, length};
+ghost use Rattle.memory.specs.Access.{pick};
+ghost use Rattle.srecord.specs.Record.{width_of, is_data};
+ghost use Rattle.srecord.specs.Found.{some_but, head_of, end_of, found_of};
 
 use crate::hex::{number_at, pair_at, sum_at};
 
-// A record's type, its address, where its data stand and how many bytes they are, and where the next line begins.
+// A record's type, its address, where its data stand and how many bytes they are, and where the next line begins. The type is the
+// digit that the file has, and no enum: `Line.holds`, `check_record` and the theorems on them speak of it as a number, so that an enum
+// would stand behind a conversion in each clause.
 #[derive(Clone, Copy)]
-pub enum Found {
-    Malformed,
-    Record {
-        kind: u32,
-        address: usize,
-        start: usize,
-        size: usize,
-        next: usize,
-    },
+pub struct Record {
+    pub kind: u8,
+    pub address: usize,
+    pub start: usize,
+    pub size: usize,
+    pub next: usize,
 }
 
-const WIDTHS: [u8; 10] = [2, 2, 3, 4, 0, 2, 0, 4, 3, 2];
-
-fn kind_of(c: u8) -> u32
-    ensures { (result ≡ c - 48) × (result ≤ 207) }
-{
-    if c < 48 { 0 } else { (c - 48) as u32 }
-}
-
-fn width_of(kind: u32) -> u32
-    ensures { (result ≡ width_of kind) × (result ≤ 4) }
-{
-    if kind < 10 {
-        wide(WIDTHS[kind as usize])
-    } else {
-        0
+impl Record {
+    // S1, S2 and S3 have data for memory.
+    pub fn is_data(self) -> bool
+        ensures { result ≡ is_data self.kind }
+    {
+        matches!(self.kind, 1..=3)
     }
 }
 
-fn wide(x: u8) -> u32
-    ensures { result ≡ x }
-{
-    x as u32
+// What a record begins with: its type, how many bytes its address has, and its count.
+#[derive(Clone, Copy)]
+struct Head {
+    kind: u8,
+    width: usize,
+    count: usize,
 }
 
-fn room_for(kind: u32, n: u32) -> bool
-    ensures { result ≡ room_for kind n }
+// How many bytes the address of a type has; S4 and S6 are no types.
+#[tactic(auto, unfolding(crate::specs::Record::width_of))]
+fn width_of(kind: u8) -> Option<usize>
+    ensures { result ≡ some_but 0 (width_of kind) }
 {
-    let width = width_of(kind);
+    match kind {
+        0 | 1 | 5 | 9 => Some(2),
+        2 | 8 => Some(3),
+        3 | 7 => Some(4),
+        _ => None,
+    }
+}
+
+// Whether a count takes in an address, data and the check byte; only S0 to S3 have data.
+fn room_for(kind: u8, width: usize, count: usize) -> bool
+    requires { width ≤ 4 }
+    ensures { result ≡ pick (leb kind 3) (ltb width count) (eqb count (width + 1)) }
+{
     if kind <= 3 {
-        (width != 0) & (width < n)
+        width < count
     } else {
-        (width != 0) & (n == width + 1)
+        count == width + 1
     }
 }
 
 // S, a type, and a count that fits it.
-fn headed(file: &[u8], at: usize) -> bool
+#[tactic(auto, using(crate::proofs::Formed::head_bare, crate::proofs::Formed::head_wide, crate::proofs::Formed::head_odd, crate::proofs::Formed::width_le, crate::proofs::Spelt::but_none, crate::proofs::Spelt::but_some))]
+fn head_at(file: &[u8], at: usize) -> Option<Head>
     requires { at + 4 ≤ length file.now }
-    ensures { result ≡ headed_at file.now at }
+    ensures { result ≡ head_of file.now at }
 {
-    let c = file[at + 1];
-    let n = pair_at(file, at + 2);
-    (file[at] == 83) & (48 <= c) & (n < 256) & room_for(kind_of(c), n)
+    let kind = file[at + 1].checked_sub(b'0')?;
+    let width = width_of(kind)?;
+    let count = usize::from(pair_at(file, at + 2)?);
+    ((file[at] == b'S') & room_for(kind, width, count)).then_some(Head { kind, width, count })
 }
 
-// A line feed, which a carriage return may precede.
-fn ends(file: &[u8], at: usize) -> bool
+// Where the next line begins, if a line ends here: in a line feed, or in a carriage return and a line feed.
+#[tactic(auto, using(crate::proofs::Formed::ends_last), unfolding(crate::specs::Found::end_of, crate::specs::Found::line_end, crate::specs::Record::ends_at))]
+fn line_end(file: &[u8], at: usize) -> Option<usize>
     requires { at < length file.now }
-    ensures { result ≡ ends_at file.now at }
+    ensures { result ≡ end_of file.now at }
 {
-    if file[at] == 10 {
-        return true;
+    if file[at] == b'\n' {
+        return Some(at + 1);
     }
-    if at + 1 < file.len() {
-        (file[at] == 13) & (file[at + 1] == 10)
-    } else {
-        false
+    if at + 1 < file.len() && file[at] == b'\r' && file[at + 1] == b'\n' {
+        return Some(at + 2);
     }
+    None
 }
 
-// Whether a whole record stands there, to the line's end.
-fn formed(file: &[u8], at: usize) -> bool
-    requires { at ≤ length file.now }
-    ensures { result ≡ formed_at file.now at }
-{
-    let left = file.len() - at;
-    if left < 4 {
-        return false;
-    }
-    if !headed(file, at) {
-        return false;
-    }
-    let n = pair_at(file, at + 2);
-    if left <= 4 + 2 * n as usize {
-        return false;
-    }
-    let sum = sum_at(file, at + 4, n);
-    if 65535 < sum {
-        return false;
-    }
-    if !ends(file, at + 4 + 2 * n as usize) {
-        return false;
-    }
-    (n + sum) % 256 == 255
-}
-
-// Where the line that ends there is over.
-fn line_end(file: &[u8], at: usize) -> usize
-    requires { at < length file.now }
-    ensures { result ≡ line_end file.now at }
-{
-    if file[at] == 10 { at + 1 } else { at + 2 }
-}
-
-// What stands from a place on.
-pub fn line_at(file: &[u8], at: usize) -> Found
+// The record from a place on, to its line's end.
+#[tactic(auto, using(crate::proofs::Formed::head_found))]
+pub fn line_at(file: &[u8], at: usize) -> Option<Record>
     requires { at ≤ length file.now }
     ensures { result ≡ found_of file.now at }
 {
-    if !formed(file, at) {
-        return Found::Malformed;
+    let left = file.len() - at;
+    if left < 4 {
+        return None;
     }
-    let kind = kind_of(file[at + 1]);
-    let n = pair_at(file, at + 2);
-    let width = width_of(kind);
-    Found::Record {
-        kind,
-        address: number_at(file, at + 4, width),
-        start: at + 4 + 2 * width as usize,
-        size: (n - 1 - width) as usize,
-        next: line_end(file, at + 4 + 2 * n as usize),
+    let head = head_at(file, at)?;
+    if left <= 4 + 2 * head.count {
+        return None;
     }
+    let first = at + 4;
+    let address = number_at(file, first, head.width)?;
+    let sum = sum_at(file, first, head.count)?;
+    let next = line_end(file, first + 2 * head.count)?;
+    if (head.count + sum) % 256 != 255 {
+        return None;
+    }
+    Some(Record {
+        kind: head.kind,
+        address,
+        start: first + 2 * head.width,
+        size: head.count - 1 - head.width,
+        next,
+    })
 }

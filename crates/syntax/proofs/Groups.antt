@@ -8,7 +8,8 @@ use borrow.Author.Tests.{eqb-true}
 use lib.Dec.{eqb}
 use lib.ListN.{length, get_or}
 use Rattle.expr.specs.Grammar.{pick, is_digit}
-use Rattle.expr.proofs.Cases.{split_lt, and_true, clash}
+use Rattle.expr.proofs.Cases.{split_lt, clash}
+use Rattle.std.proofs.lemmas.Bool.{and_parts}
 use Rattle.insn.specs.declared.profile.Profile.{Profile}
 use Rattle.insn.specs.declared.instr.Instr.{Instr}
 use Rattle.insn.specs.declared.instr.System.{System}
@@ -59,8 +60,8 @@ all_ordered p c =
 ordered_parts : (c : ℕ) (i : Instr) (is : List Instr) → Ordered c (i ∷ is) → ((head_is c (shape_of i) ≡ true) × (well_made (shape_of i) ≡ true)) × ((apart_from i is ≡ true) × (ordered c is ≡ true))
 unfolding ordered
 ordered_parts c i is e =
-    let a : ((head_is c (shape_of i) && well_made (shape_of i)) ≡ true) × ((apart_from i is && ordered c is) ≡ true) = and_true _ _ e in
-    (and_true _ _ a.0, and_true _ _ a.1)
+    let a : ((head_is c (shape_of i) && well_made (shape_of i)) ≡ true) × ((apart_from i is && ordered c is) ≡ true) = and_parts _ _ e in
+    (and_parts _ _ a.0, and_parts _ _ a.1)
 
 head_at : (c : ℕ) (is : List Instr) (n : ℕ) (d : Instr) → Ordered c is → n < length is → (head_is c (shape_of (get_or is n d)) ≡ true) × (well_made (shape_of (get_or is n d)) ≡ true)
 head_at c [] n d o l = let z : ⊥ = omega arith in absurd z
@@ -70,8 +71,8 @@ head_at c (i ∷ is) (suc n) d o l = head_at c is n d (ordered_parts c i is o).1
 apart_at : (i : Instr) (is : List Instr) (n : ℕ) (d : Instr) → apart_from i is ≡ true → n < length is → differ (shape_of i) (shape_of (get_or is n d)) ≡ true
 unfolding apart_from
 apart_at i [] n d e l = let z : ⊥ = omega arith in absurd z
-apart_at i (j ∷ js) zero d e l = (and_true (differ (shape_of i) (shape_of j)) (apart_from i js) e).0
-apart_at i (j ∷ js) (suc n) d e l = apart_at i js n d (and_true (differ (shape_of i) (shape_of j)) (apart_from i js) e).1 (omega arith)
+apart_at i (j ∷ js) zero d e l = (and_parts (differ (shape_of i) (shape_of j)) (apart_from i js) e).0
+apart_at i (j ∷ js) (suc n) d e l = apart_at i js n d (and_parts (differ (shape_of i) (shape_of j)) (apart_from i js) e).1 (omega arith)
 
 differ_at : (c : ℕ) (is : List Instr) (n m : ℕ) (d : Instr) → Ordered c is → n < m → m < length is → differ (shape_of (get_or is n d)) (shape_of (get_or is m d)) ≡ true
 differ_at c [] n m d o l k = let z : ⊥ = omega arith in absurd z
@@ -106,8 +107,8 @@ all_spelled_lem p c =
 spelled_in : (p : Profile) (is : List Instr) (n : ℕ) (d : Instr) → all_spelled p is ≡ true → n < length is → spelled_on p (get_or is n d) ≡ true
 unfolding all_spelled
 spelled_in p [] n d e l = let z : ⊥ = omega arith in absurd z
-spelled_in p (i ∷ is) zero d e l = (and_true (spelled_on p i) (all_spelled p is) e).0
-spelled_in p (i ∷ is) (suc n) d e l = spelled_in p is n d (and_true (spelled_on p i) (all_spelled p is) e).1 (omega arith)
+spelled_in p (i ∷ is) zero d e l = (and_parts (spelled_on p i) (all_spelled p is) e).0
+spelled_in p (i ∷ is) (suc n) d e l = spelled_in p is n d (and_parts (spelled_on p i) (all_spelled p is) e).1 (omega arith)
 
 pub sample_spelled : (p : Profile) (c n : ℕ) → n < length (samples p c) → spelled_on p (sample_at p c n) ≡ true
 sample_spelled p c n l = spelled_in p (samples p c) n some (all_spelled_lem p c) l

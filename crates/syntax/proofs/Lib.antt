@@ -6,3 +6,4 @@ pub mod Samples
 pub mod Groups
 pub mod Printing
 pub mod Letters
+pub mod Codes

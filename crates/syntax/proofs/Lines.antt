@@ -12,10 +12,11 @@ use lib.Seq.{drop_at, drop-append-le, take-suc, split_at, length-take-le, take-a
 use Rattle.expr.specs.Grammar.{pick, is_digit, all_digits, in_only, in_one, in_num}
 use Rattle.expr.specs.Scan.{Out, scan, start}
 use Rattle.expr.proofs.Numbers.{taken}
-use Rattle.expr.proofs.Cases.{and_true, clash}
+use Rattle.expr.proofs.Cases.{clash}
+use Rattle.std.proofs.lemmas.Bool.{and_parts, or_parts}
 use Rattle.expr.proofs.Complete.{head_of, stops_end, taken_all}
 use Rattle.expr.proofs.Longest.{Follows, ended_with}
-use Rattle.expr.proofs.Sound.{Cut, Read, start_read_at}
+use Rattle.expr.proofs.Sound.{Cut, Read, start_read_at, zero_digit}
 use Rattle.expr.proofs.Column.{column_of, local}
 use Rattle.syntax.specs.Syntax.{Range, Item, lit, reg, zreg, num}
 use Rattle.syntax.specs.Line.{Part, byte, register, zero as lone, value, text_of, texts, Fits, fits_lit, fits_reg, fits_zreg, fits_zero, fits_num, Line, line_end, line_more, Begins}
@@ -23,20 +24,13 @@ use Rattle.syntax.specs.Take.{Took, took, none, of_out, take_number, take_reg, t
 
 -- ---- what may follow an item
 
-or_false : (a b : Bool) → (a || b) ≡ false → (a ≡ false) × (b ≡ false)
-or_false true b e = clash (sym e)
-or_false false b e = (refl, e)
-
-ne_of : (a b : ℕ) → eqb a b ≡ false → a ≡ b → ⊥
-ne_of a b e = eqb-false a b e
-
 follows_byte : (c : ℕ) (r : List ℕ) → ends_num c ≡ true → Follows (c ∷ r)
 follows_byte c r e =
     let a : (is_digit true c || eqb c 120 || eqb c 42 || eqb c 43 || eqb c 45) ≡ false = not-true _ e in
-    let b : ((is_digit true c || eqb c 120 || eqb c 42 || eqb c 43) ≡ false) × (eqb c 45 ≡ false) = or_false (is_digit true c || eqb c 120 || eqb c 42 || eqb c 43) (eqb c 45) a in
-    let d : ((is_digit true c || eqb c 120 || eqb c 42) ≡ false) × (eqb c 43 ≡ false) = or_false (is_digit true c || eqb c 120 || eqb c 42) (eqb c 43) b.0 in
-    let f : ((is_digit true c || eqb c 120) ≡ false) × (eqb c 42 ≡ false) = or_false (is_digit true c || eqb c 120) (eqb c 42) d.0 in
-    let g : (is_digit true c ≡ false) × (eqb c 120 ≡ false) = or_false (is_digit true c) (eqb c 120) f.0 in
+    let b : ((is_digit true c || eqb c 120 || eqb c 42 || eqb c 43) ≡ false) × (eqb c 45 ≡ false) = or_parts (is_digit true c || eqb c 120 || eqb c 42 || eqb c 43) (eqb c 45) a in
+    let d : ((is_digit true c || eqb c 120 || eqb c 42) ≡ false) × (eqb c 43 ≡ false) = or_parts (is_digit true c || eqb c 120 || eqb c 42) (eqb c 43) b.0 in
+    let f : ((is_digit true c || eqb c 120) ≡ false) × (eqb c 42 ≡ false) = or_parts (is_digit true c || eqb c 120) (eqb c 42) d.0 in
+    let g : (is_digit true c ≡ false) × (eqb c 120 ≡ false) = or_parts (is_digit true c) (eqb c 120) f.0 in
     record { stops = (g.0, eqb-false c 120 g.1); no_star = eqb-false c 42 f.1; no_sign = rw (d.1, b.1) }
 
 follows_end : Follows []
@@ -88,10 +82,10 @@ item_complete : {x : Item} {p : Part} → Fits x p → (i : ℕ) (r : List ℕ) 
 unfolding take_item take_byte take_reg take_zreg take_number text_of all_digits
 item_complete (fits_lit c) i r a = rw (eq-eqb c c refl) (same_took _ _ _ (omega arith))
 item_complete (fits_reg d ds g) i r a =
-    let b : (is_digit false d ≡ true) × (all_digits false ds ≡ true) = and_true (is_digit false d) (all_digits false ds) g in
+    let b : (is_digit false d ≡ true) × (all_digits false ds ≡ true) = and_parts (is_digit false d) (all_digits false ds) g in
     rw (b.0, taken_all false ds r b.1 a) (same_took _ _ _ (omega arith))
 item_complete (fits_zreg d ds g) i r a =
-    let b : (is_digit false d ≡ true) × (all_digits false ds ≡ true) = and_true (is_digit false d) (all_digits false ds) g in
+    let b : (is_digit false d ≡ true) × (all_digits false ds ≡ true) = and_parts (is_digit false d) (all_digits false ds) g in
     rw (b.0, taken_all false ds r b.1 a) (same_took _ _ _ (omega arith))
 item_complete fits_zero i r a = same_took _ _ _ (omega arith)
 item_complete (fits_num y) i r a = rw (ended_with y i r a)
@@ -102,7 +96,7 @@ line_complete [] [] w line_end i = refl
 line_complete [] (p ∷ ps) w l i = elim l [ ]
 line_complete (x ∷ xs) [] w l i = elim l [ ]
 line_complete (x ∷ xs) (p ∷ ps) w (line_more f l) i =
-    let b : (apart x xs ≡ true) × (well_made xs ≡ true) = and_true (apart x xs) (well_made xs) w in
+    let b : (apart x xs ≡ true) × (well_made xs ≡ true) = and_parts (apart x xs) (well_made xs) w in
     let n : i + length (text_of p) - i ≡ length (text_of p) = omega arith in
     rw (item_complete f i (texts ps) (after x xs ps b.0 l), n, drop_at (text_of p) (texts ps) (length (text_of p)) refl, line_complete xs ps b.1 l (i + length (text_of p)))
 
@@ -115,10 +109,6 @@ line_unique xs ps qs w l m e = all_same ps qs (sym (line_complete xs ps w l 0) �
 
 -- ---- what is taken is a line; and what was read before a column begins one
 
-some_digit : all_digits false (48 ∷ []) ≡ true
-unfolding all_digits is_digit
-some_digit = refl
-
 -- every item has a part, and every pattern a line
 pub record Some (xs : List Item) : Type 0 where
   pub parts : List Part
@@ -127,11 +117,11 @@ pub record Some (xs : List Item) : Type 0 where
 pub some_line : (xs : List Item) → Some xs
 some_line [] = record { parts = []; line = line_end }
 some_line (lit c ∷ xs) = let r = some_line xs in record { parts = byte c ∷ r.parts; line = line_more (fits_lit c) r.line }
-some_line (reg ∷ xs) = let r = some_line xs in record { parts = register 48 [] ∷ r.parts; line = line_more (fits_reg 48 [] some_digit) r.line }
+some_line (reg ∷ xs) = let r = some_line xs in record { parts = register 48 [] ∷ r.parts; line = line_more (fits_reg 48 [] zero_digit) r.line }
 some_line (zreg ∷ xs) = let r = some_line xs in record { parts = lone ∷ r.parts; line = line_more fits_zero r.line }
 some_line (num q ∷ xs) =
     let r = some_line xs in
-    record { parts = value _ ∷ r.parts; line = line_more (fits_num (in_only (in_one (in_num false 48 [] some_digit)))) r.line }
+    record { parts = value _ ∷ r.parts; line = line_more (fits_num (in_only (in_one (in_num false 48 [] zero_digit)))) r.line }
 
 pub record BeginsItem (x : Item) (v : List ℕ) : Type 0 where
   pub part : Part
@@ -158,7 +148,7 @@ here x s i b = record { part = []; rest = s; split = refl; column = omega arith;
 
 some_reg : BeginsItem reg []
 unfolding text_of
-some_reg = record { part = register 48 []; fits = fits_reg 48 [] some_digit; rest = 114 ∷ 48 ∷ []; text = refl }
+some_reg = record { part = register 48 []; fits = fits_reg 48 [] zero_digit; rest = 114 ∷ 48 ∷ []; text = refl }
 
 some_byte : (c : ℕ) → BeginsItem (lit c) []
 unfolding text_of
@@ -166,7 +156,7 @@ some_byte c = record { part = byte c; fits = fits_lit c; rest = c ∷ []; text =
 
 some_number : BeginsItem reg (114 ∷ [])
 unfolding text_of
-some_number = record { part = register 48 []; fits = fits_reg 48 [] some_digit; rest = 48 ∷ []; text = refl }
+some_number = record { part = register 48 []; fits = fits_reg 48 [] zero_digit; rest = 48 ∷ []; text = refl }
 
 byte_read : (c i : ℕ) (s : List ℕ) → ItemRead (lit c) i s (take_byte c i s)
 unfolding take_byte text_of

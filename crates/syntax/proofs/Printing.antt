@@ -1,20 +1,18 @@
 -- Laws of printing: what the stores of a row come to.
-use Prim.Native.Nat.{ℕ, zero, suc, ◌+◌, ◌-◌, ◌*◌, ◌/◌, ◌%◌, ◌^◌, ◌≤◌, ◌<◌, zero-le}
-use native.Mathlib.Nat.{mul-le-mul_right}
+use Prim.Native.Nat.{ℕ, zero, suc, ◌+◌, ◌-◌, ◌*◌, ◌/◌, ◌%◌, ◌≤◌, ◌<◌, zero-le}
 use native.Mathlib.Omega.{arith}
-use native.Mathlib.Numerals.{add-one}
-use mathlib.Core.Path.{◌≡◌, refl, ap, ◌∙◌}
+use mathlib.Core.Path.{◌≡◌, refl, sym, ap, ◌∙◌}
 use mathlib.Core.List.{List, [], ◌∷◌, ◌++◌}
 use lib.ListN.{length, get_or, drop, set, length-append, drop_of_length-le}
 use lib.Seq.{sets, length-sets, drop-cons}
 use lib.Dec.{eqb, ltb}
-use mathlib.Core.Bool.{Bool, true, false, ◌||◌}
+use mathlib.Core.Bool.{Bool, true, false}
 use Rattle.expr.specs.Grammar.{pick}
-use borrow.Author.Tests.{lt-ltb, le-ltb, ne_eqb}
+use borrow.Author.Tests.{lt-ltb, le-ltb}
 use Rattle.syntax.specs.Syntax.{signed, unsigned, target, frame, Item, lit, reg, zreg, num}
-use Rattle.syntax.specs.LineOf.{decimal, signed_text, number_text}
-use Rattle.syntax.specs.Inside.{range_of, operand_at, item_at, pattern_of, next_of, operand_text, queue_after, printed, wide_item, wide}
-use Rattle.syntax.specs.declared.queue.Queue.{Queue}
+use Rattle.syntax.specs.LineOf.{decimal, signed_text}
+use Rattle.syntax.proofs.Walk.{pattern_cons}
+use Rattle.syntax.specs.Inside.{Queue, item_at, pattern_of, operand_text, queue_after, printed, wide_item, wide}
 
 -- w stored from a place on, and where it ends
 abbrev pub Put : List ℕ → ℕ → List ℕ → ℕ → List ℕ → Type 0
@@ -66,30 +64,6 @@ unfolding signed_text
 put_minus unit h n d l m o i g j p e q r =
     rw (le-ltb n h p, ← e) (then (45 ∷ []) (decimal 8 (unit * d)) l m o i g j q r)
 
--- times the unit it fits a word
-pub times_fits : (u n : ℕ) → u ≤ 8 → n ≤ 0x100_0000 → u * n < 2 ^ 32
-times_fits u n p q = omega (arith, mul-le-mul_right n p)
-
--- the text of a number by its letter, as the code asks
-pub number_text_lem : (c n : ℕ)
-    → number_text (range_of c) n ≡ pick (eqb c 83) (signed_text 1 0x8000 n) (pick (eqb c 85 || eqb c 78 || eqb c 76 || eqb c 67 || eqb c 80 || eqb c 69) (decimal 8 n) (pick (eqb c 70) (signed_text 8 0x1000 n) (pick (eqb c 74) (signed_text 4 0x80_0000 n) (signed_text 4 0x2000 n))))
-unfolding range_of
-number_text_lem c n = by (eqb c 83) (eqb c 85) (eqb c 78) (eqb c 76) (eqb c 67) (eqb c 80) (eqb c 69) (eqb c 70) (eqb c 74)
-  where
-    by : (s u f l b p e d j : Bool)
-        → number_text (pick s (signed 0x8000) (pick u (unsigned 0x1_0000) (pick f (unsigned 32) (pick l (unsigned 64) (pick b (unsigned 4) (pick p (unsigned 1024) (pick e (unsigned 2) (pick d (frame 0x1000) (pick j (target 0x80_0000) (target 0x2000)))))))))) n
-        ≡ pick s (signed_text 1 0x8000 n) (pick (u || f || l || b || p || e) (decimal 8 n) (pick d (signed_text 8 0x1000 n) (pick j (signed_text 4 0x80_0000 n) (signed_text 4 0x2000 n))))
-    by true u f l b p e d j = refl
-    by false true f l b p e d j = refl
-    by false false true l b p e d j = refl
-    by false false false true b p e d j = refl
-    by false false false false true p e d j = refl
-    by false false false false false true e d j = refl
-    by false false false false false false true d j = refl
-    by false false false false false false false true j = refl
-    by false false false false false false false false true = refl
-    by false false false false false false false false false = refl
-
 -- an operand takes at most nine bytes
 pub signed_length : (unit h n : ℕ) → length (signed_text unit h n) ≤ 9
 unfolding signed_text
@@ -111,30 +85,6 @@ text_length (num (signed h)) n = signed_length 1 h n
 text_length (num (unsigned m)) n = omega (arith, decimal_length 8 n)
 text_length (num (target h)) n = signed_length 4 h n
 text_length (num (frame h)) n = signed_length 8 h n
-
--- the letters of the operands
-pub operand_wide : (c : ℕ) → wide_item (operand_at c) ≡ 9
-unfolding operand_at
-operand_wide c = by (eqb c 82) (eqb c 90)
-  where
-    by : (r z : Bool) → wide_item (pick r reg (pick z zreg (num (range_of c)))) ≡ 9
-    by true z = refl
-    by false true = refl
-    by false false = refl
-
-pub operand_after : (c : ℕ) (q : Queue) → queue_after (operand_at c) q ≡ next_of q
-unfolding operand_at
-operand_after c q = by (eqb c 82) (eqb c 90)
-  where
-    by : (r z : Bool) → queue_after (pick r reg (pick z zreg (num (range_of c)))) q ≡ next_of q
-    by true z = refl
-    by false true = refl
-    by false false = refl
-
--- a row from a place of it on
-pattern_more : (row : List ℕ) (j : ℕ) → j < length row → (get_or row j 0 ≡ 59 → ⊥) → pattern_of (drop j row) ≡ item_at (get_or row j 0) ∷ pattern_of (drop (j + 1) row)
-unfolding pattern_of
-pattern_more row j h n = rw (add-one, drop-cons row j 0 h, ne_eqb (get_or row j 0) 59 n)
 
 -- a row printed as far as a place of it: what is left to print
 pub record Going (out₀ row : List ℕ) (fields : Queue) (out : List ℕ) (q : Queue) (at j : ℕ) : Type 0 where
@@ -168,17 +118,16 @@ module _ (out₀ row : List ℕ) (fields : Queue) where
     pub item_room : j < length row → (get_or row j 0 ≡ 59 → ⊥) → at + wide_item (item_at (get_or row j 0)) ≤ length out
     unfolding wide
     item_room h n =
-        let room : at + (wide_item (item_at (get_or row j 0)) + wide (pattern_of (drop (j + 1) row))) ≤ length out = rw (pattern_more row j h n) at g.room in
+        let room : at + (wide_item (item_at (get_or row j 0)) + wide (pattern_of (drop (j + 1) row))) ≤ length out = rw (pattern_cons row j h n) at g.room in
         omega arith
 
-    pub going_on : (out' : List ℕ) (q' : Queue) (at' : ℕ) → j < length row → (get_or row j 0 ≡ 59 → ⊥)
-        → Put out at (operand_text (item_at (get_or row j 0)) q.a) at' out' → q' ≡ queue_after (item_at (get_or row j 0)) q → Going out₀ row fields out' q' at' (j + 1)
+    pub going_on : (out' : List ℕ) (q' : Queue) (at' : ℕ) (x : Item) → j < length row → (get_or row j 0 ≡ 59 → ⊥) → x ≡ item_at (get_or row j 0)
+        → Put out at (operand_text x q.a) at' out' → q' ≡ queue_after x q → Going out₀ row fields out' q' at' (j + 1)
     unfolding printed wide
-    going_on out' q' at' h n p e =
-        let x : Item = item_at (get_or row j 0) in
+    going_on out' q' at' x h n r p e =
         let xs : List Item = pattern_of (drop (j + 1) row) in
         let t : List ℕ = operand_text x q.a in
-        let more : pattern_of (drop j row) ≡ x ∷ xs = pattern_more row j h n in
+        let more : pattern_of (drop j row) ≡ x ∷ xs = pattern_cons row j h n ∙ ap (λ (y : Item). y ∷ xs) (sym r) in
         let room : at + (wide_item x + wide xs) ≤ length out = rw more at g.room in
         let ends : at + length (t ++ printed xs (queue_after x q)) ≡ length (printed (pattern_of row) fields) = rw more at g.ends in
         let writes : sets out at (t ++ printed xs (queue_after x q)) ≡ sets out₀ 0 (printed (pattern_of row) fields) = rw more at g.writes in

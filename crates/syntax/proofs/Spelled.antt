@@ -1,20 +1,15 @@
 -- A core has an instruction whose unwritten fields are 0 exactly when it has its mnemonic.
 use mathlib.Core.Path.{◌≡◌, refl}
-use mathlib.Core.Bool.{Bool, true, false, ◌&&◌, ◌||◌}
-use Rattle.expr.proofs.Cases.{and_true, clash}
+use mathlib.Core.Bool.{Bool, true, false, ◌&&◌}
+use Rattle.expr.proofs.Cases.{clash}
+use Rattle.std.proofs.Math.Bool.{or-true}
+use Rattle.word.proofs.Truth.{or_none}
+use Rattle.std.proofs.lemmas.Bool.{and_parts}
 use Rattle.insn.specs.Valid.{trap_form, valid_of}
 use Rattle.insn.specs.Profile.{arithmetic_on42, rotate_on42, has, valid_on}
 use Rattle.insn.specs.declared.profile.Profile.{Profile}
 use Rattle.insn.specs.declared.instr.Instr.{Instr}
 use Rattle.syntax.specs.Syntax.{plain, spelled_on}
-
-or_right : (b : Bool) → (b || true) ≡ true
-or_right true = refl
-or_right false = refl
-
-or_none : (b : Bool) → (b || false) ≡ b
-or_none true = refl
-or_none false = refl
 
 and_same : (b : Bool) → (b && b) ≡ b
 and_same true = refl
@@ -22,10 +17,10 @@ and_same false = refl
 
 -- the 42X has every mnemonic
 pub spelled_42x : (i : Instr) → spelled_on Profile.Ppe42x i ≡ true
-spelled_42x (Instr.Arithmetic i) = or_right (arithmetic_on42 i)
+spelled_42x (Instr.Arithmetic i) = or-true (arithmetic_on42 i)
 spelled_42x (Instr.Logical i) = refl
 spelled_42x (Instr.Compare i) = refl
-spelled_42x (Instr.Rotate i) = or_right (rotate_on42 i)
+spelled_42x (Instr.Rotate i) = or-true (rotate_on42 i)
 spelled_42x (Instr.LoadStore i) = refl
 spelled_42x (Instr.Stack dd op rt ra) = refl
 spelled_42x (Instr.Branch i) = refl
@@ -48,11 +43,11 @@ plain_valid Profile.Ppe42 (Instr.System i) e = refl
 plain_valid Profile.Ppe42 (Instr.Cache op hint ra rb) e = refl
 
 pub plain_spelled : (p : Profile) (i : Instr) → plain i ≡ true → valid_on p i ≡ true → spelled_on p i ≡ true
-plain_spelled p i e v = (and_true (spelled_on p i) (valid_of i) (rw (plain_valid p i e) at v)).0
+plain_spelled p i e v = (and_parts (spelled_on p i) (valid_of i) (rw (plain_valid p i e) at v)).0
 
 pub spelled_valid : (p : Profile) (i : Instr) → plain i ≡ true → spelled_on p i ≡ true → valid_of i ≡ true → valid_on p i ≡ true
 spelled_valid p i e s v = rw (plain_valid p i e, s, v)
 
 -- what is valid on a core is valid on a 42X
 pub on_valid : (p : Profile) (i : Instr) → valid_on p i ≡ true → valid_of i ≡ true
-on_valid p i v = (and_true (has p i) (valid_of i) v).1
+on_valid p i v = (and_parts (has p i) (valid_of i) v).1

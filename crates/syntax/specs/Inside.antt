@@ -1,24 +1,40 @@
 -- What the functions answer: a row in bytes, a line against it, the rows of a letter. For their contracts; Answer in asm says
 -- what a line is answered.
-use Rattle.std.specs.Prelude.{ℕ, zero, suc, ◌+◌, ◌*◌, ◌%◌, ◌^◌, ◌≤◌, ◌<◌, ◌≡◌, Bool, true, false, ◌&&◌, List, [], ◌∷◌, ◌++◌, eqb, leb, ltb, length, take, drop}
+use Rattle.std.specs.Prelude.{ℕ, Result as Outcome, Ok, Err, zero, suc, ◌+◌, ◌*◌, ◌%◌, ◌^◌, ◌≡◌, Bool, true, false, ◌&&◌, List, [], ◌∷◌, ◌++◌, eqb, leb, ltb, length, take, drop}
 use Rattle.std.proofs.lemmas.List.Edits.{sets}
 use Rattle.expr.specs.Grammar.{pick}
 use Rattle.expr.specs.Digits.{digits_from}
+use Rattle.expr.specs.declared.Read.{Read}
+use Rattle.expr.specs.declared.Stuck.{Stuck}
 use Rattle.insn.specs.Write.{word_of}
+use Rattle.insn.specs.declared.profile.Profile.{Profile}
 use Rattle.insn.specs.declared.instr.Instr.{Instr}
 use Rattle.insn.specs.Valid.{valid_of}
 use Rattle.syntax.specs.Syntax.{Range, signed, unsigned, target, frame, Item, lit, reg, zreg, num, shape_of, plain}
 use Rattle.syntax.specs.Line.{Part, text_of}
-use Rattle.syntax.specs.Worth.{field_of}
+use Rattle.syntax.specs.Worth.{Field, field_of}
 use Rattle.syntax.specs.LineOf.{number_text, register_text, base_text}
 use Rattle.syntax.specs.Take.{Took, took, none, Result, all, stopped, take_line, well_made}
-use Rattle.syntax.specs.declared.field.Field.{Field}
-use Rattle.syntax.specs.declared.item.Step.{Step}
-use Rattle.syntax.specs.declared.line.Operands.{Operands}
-use Rattle.syntax.specs.declared.line.Spot.{Spot}
-use Rattle.syntax.specs.declared.queue.Queue.{Queue}
-use Rattle.syntax.specs.declared.table.Job.{Job}
-use Rattle.syntax.specs.declared.table.Done.{Done}
+use Rattle.syntax.specs.declared.five.Five.{Five}
+use Rattle.syntax.specs.declared.slot.Number.{Number}
+use Rattle.syntax.specs.declared.slot.Slot.{Slot}
+use Rattle.syntax.specs.declared.table.Found.{Found}
+
+abbrev pub Operands : Type 0
+Operands = Five Field
+
+abbrev pub Queue : Type 0
+Queue = Five ℕ
+
+-- an item; a line against a row, and against the rows of a letter: what was read, or the column where no line goes on
+abbrev pub Step : Type 0
+Step = Outcome (Read Field) Stuck
+
+abbrev pub Spot : Type 0
+Spot = Outcome Operands Stuck
+
+abbrev pub Place : Type 0
+Place = Outcome Found Stuck
 
 -- the range of a number by its letter in a row
 unfoldable pub range_of : ℕ → Range
@@ -35,6 +51,32 @@ operand_at c = pick (eqb c 82) reg (pick (eqb c 90) zreg (num (range_of c)))
 unfoldable pub item_at : ℕ → Item
 item_at c = pick (is_operand c) (operand_at c) (lit c)
 
+-- what a byte of a row is read as
+abbrev pub range_in : Number → Range
+range_in Number.Signed = signed 0x8000
+range_in Number.Unsigned = unsigned 0x1_0000
+range_in Number.Five = unsigned 32
+range_in Number.Six = unsigned 64
+range_in Number.Two = unsigned 4
+range_in Number.Ten = unsigned 1024
+range_in Number.One = unsigned 2
+range_in Number.Frame = frame 0x1000
+range_in Number.Branch = target 0x80_0000
+range_in Number.Conditional = target 0x2000
+
+abbrev pub item_in : Slot → Item
+item_in (Slot.Byte c) = lit c
+item_in Slot.Register = reg
+item_in Slot.Base = zreg
+item_in (Slot.Number n) = num (range_in n)
+
+-- a byte of a row that stands for itself
+abbrev pub is_byte : Slot → Bool
+is_byte (Slot.Byte c) = true
+is_byte Slot.Register = false
+is_byte Slot.Base = false
+is_byte (Slot.Number n) = false
+
 unfoldable pub pattern_of : List ℕ → List Item
 pattern_of [] = []
 pattern_of (c ∷ cs) = pick (eqb c 59) [] (item_at c ∷ pattern_of cs)
@@ -49,13 +91,13 @@ pattern_at t n = pattern_of (row_at t n)
 unfoldable pub word_at : List ℕ → ℕ → ℕ
 word_at t n = (digits_from true 0 (n * 28) (drop (n * 28) t)).value % 2 ^ 32
 
--- an item read
+-- an operand read
 abbrev pub step_of : Item → ℕ → Took → Step
-step_of x i (took p j) = record { end = j; bad = false; field = field_of x i p }
-step_of x i (none k) = record { end = k; bad = true; field = Field.Unfit }
+step_of x i (took p j) = Ok (record { end = j; value = field_of x i p })
+step_of x i (none k) = Err (record { column = k })
 
 abbrev pub no_operands : Operands
-no_operands = record { a = Field.Code 0; b = Field.Code 0; c = Field.Code 0; d = Field.Code 0; e = Field.Code 0 }
+no_operands = record { a = Ok 0; b = Ok 0; c = Ok 0; d = Ok 0; e = Ok 0 }
 
 abbrev pub pushed : Operands → Field → Operands
 pushed o f = record { a = f; b = o.a; c = o.b; d = o.c; e = o.d }
@@ -73,11 +115,11 @@ gathered o i (x ∷ xs) (p ∷ ps) = gathered (push_on x o (field_of x i p)) (i 
 
 -- a line against a row
 abbrev pub spot_with : List Item → Operands → ℕ → Result → Spot
-spot_with xs o i (all ps) = Spot.Whole (gathered o i xs ps)
-spot_with xs o i (stopped k) = Spot.Bad k
+spot_with xs o i (all ps) = Ok (gathered o i xs ps)
+spot_with xs o i (stopped k) = Err (record { column = k })
 
 abbrev pub finish_of : ℕ → ℕ → Operands → Spot
-finish_of n i o = pick (eqb i n) (Spot.Whole o) (Spot.Bad i)
+finish_of n i o = pick (eqb i n) (Ok o) (Err (record { column = i }))
 
 unfoldable pub spot_of : List Item → List ℕ → Spot
 spot_of xs s = spot_with xs no_operands 0 (take_line xs 0 s)
@@ -86,12 +128,12 @@ spot_of xs s = spot_with xs no_operands 0 (take_line xs 0 s)
 abbrev pub larger : ℕ → ℕ → ℕ
 larger a b = pick (ltb a b) b a
 
-abbrev pub tried : Spot → ℕ → ℕ → (ℕ → Done) → Done
-tried (Spot.Whole o) w best f = Done.Row w o
-tried (Spot.Bad k) w best f = f (larger best k)
+abbrev pub tried : Spot → ℕ → ℕ → (ℕ → Place) → Place
+tried (Ok o) w best f = Ok (record { word = w; operands = o })
+tried (Err k) w best f = f (larger best k.column)
 
-unfoldable pub rows_from : ℕ → ℕ → ℕ → List ℕ → List ℕ → Done
-rows_from zero n best t s = Done.Bad best
+unfoldable pub rows_from : ℕ → ℕ → ℕ → List ℕ → List ℕ → Place
+rows_from zero n best t s = Err (record { column = best })
 rows_from (suc c) n best t s = tried (spot_of (pattern_at t n) s) (word_at t n) best (λ (b : ℕ). rows_from c (suc n) b t s)
 
 -- a row printed with an instruction's operands
@@ -124,19 +166,6 @@ wide_item (num r) = 9
 unfoldable pub wide : List Item → ℕ
 wide [] = 0
 wide (x ∷ xs) = wide_item x + wide xs
-
--- what is done with rows
-abbrev pub done_of : List ℕ → ℕ → Job → List ℕ → Done
-done_of t count Job.Read s = rows_from count 0 0 t s
-done_of t count (Job.Print n q) s = Done.Printed (length (printed (pattern_at t n) q))
-
-abbrev pub out_of : List ℕ → Job → List ℕ → List ℕ
-out_of t Job.Read out = out
-out_of t (Job.Print n q) out = sets out 0 (printed (pattern_at t n) q)
-
-abbrev pub Printable : ℕ → Job → List ℕ → Type 0
-Printable count Job.Read out = 0 < 1
-Printable count (Job.Print n q) out = (n < count) × (64 ≤ length out)
 
 -- which of the ranges it is, and its number
 abbrev pub kind_of : Range → ℕ
@@ -205,9 +234,25 @@ matches_from n t (i ∷ is) = row_matches t n i && matches_from (suc n) t is
 unfoldable pub matches : List ℕ → List Instr → Bool
 matches t is = leb (length is * 28) (length t) && matches_from 0 t is
 
--- rows that stand for these instructions, and what was done with them
-pub record WithRows (is : List Instr) (job : Job) (s before after : List ℕ) (r : Done) : Type 0 where
+-- the rows of a letter, of which the 42 has so many
+abbrev pub rows_on : Profile → ℕ → List ℕ → List ℕ
+rows_on Profile.Ppe42 n t = take (n * 28) t
+rows_on Profile.Ppe42x n t = t
+
+-- rows that stand for these instructions, and no more
+pub record StandFor (rows : List ℕ) (is : List Instr) : Type 0 where
+  pub right : matches rows is ≡ true
+  pub whole : length rows ≡ length is * 28
+
+-- a line read against such rows
+pub record ReadIn (is : List Instr) (s : List ℕ) (r : Place) : Type 0 where
   pub rows : List ℕ
   pub right : matches rows is ≡ true
-  pub done : r ≡ done_of rows (length is) job s
-  pub out : after ≡ out_of rows job before
+  pub done : r ≡ rows_from (length is) 0 0 rows s
+
+-- one of them printed
+pub record PrintedIn (is : List Instr) (n : ℕ) (q : Queue) (before after : List ℕ) (m : ℕ) : Type 0 where
+  pub rows : List ℕ
+  pub right : matches rows is ≡ true
+  pub bytes : m ≡ length (printed (pattern_at rows n) q)
+  pub out : after ≡ sets before 0 (printed (pattern_at rows n) q)

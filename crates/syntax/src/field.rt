@@ -1,111 +1,106 @@
 // What the field of an operand holds.
-ghost use Rattle.std.specs.Prelude.{◌≡◌, ◌≤◌, ◌^◌};
+ghost use Rattle.std.specs.Prelude.{◌≡◌, ◌≤◌, ◌^◌, Ok};
 ghost use Rattle.syntax.specs.Worth.{below, signed_code, unsigned_code, target_code, frame_code, code_of};
-ghost use Rattle.syntax.specs.Inside.{range_of};
+ghost use Rattle.syntax.specs.Inside.{range_in};
+ghost use Rattle.syntax.specs.declared.field.Misfit.{Misfit};
 
-use expr::Value;
+use crate::slot::Number;
+use expr::{Off, Value};
 
-// Its contents; none, since the operand does not fit; or the column of the first value outside -2^31 to 2^31 - 1.
-#[derive(Clone, Copy)]
-pub enum Field {
-    Code(u32),
+// Why a field has no contents: the operand does not fit, or a value in it is outside -2^31 to 2^31 - 1.
+#[derive(Clone, Copy, PartialEq, Eq, Debug)]
+pub enum Misfit {
     Unfit,
-    Off(usize),
+    Off(Off),
 }
+
+impl From<Off> for Misfit {
+    ghost from_gives = { λ off misfit. misfit ≡ Misfit.Off off };
+
+    fn from(off: Off) -> Misfit {
+        Misfit::Off(off)
+    }
+}
+
+pub type Field = Result<u32, Misfit>;
 
 pub fn below_limit(limit: u64, n: u64) -> Field
     requires { limit ≤ 2 ^ 32 }
     ensures { result ≡ below limit n }
 {
     if n < limit {
-        Field::Code(n as u32)
+        Ok(n as u32)
     } else {
-        Field::Unfit
+        Err(Misfit::Unfit)
     }
 }
 
 // Two's complement in a field of 2 * h values.
-fn signed_code(h: u64, v: Value) -> Field
+
+#[tactic(auto, using(crate::proofs::Codes::signed_up, crate::proofs::Codes::signed_down, crate::proofs::Codes::signed_not))]
+fn signed_code(h: u64, v: i32) -> Field
     requires { h ≤ 2 ^ 31 }
-    ensures { result ≡ signed_code h v }
+    ensures { result ≡ signed_code h (Ok v) }
 {
-    match v {
-        Value::Off(k) => Field::Off(k),
-        Value::Plus(n) => below_limit(h, n),
-        Value::Minus(n) => if n < h {
-            Field::Code((2 * h - 1 - n) as u32)
-        } else {
-            Field::Unfit
-        },
+    let n = u64::from(v.unsigned_abs());
+    if 0 <= v {
+        below_limit(h, n)
+    } else if n <= h {
+        Ok((2 * h - n) as u32)
+    } else {
+        Err(Misfit::Unfit)
     }
 }
 
-fn unsigned_code(m: u64, v: Value) -> Field
+#[tactic(auto, using(crate::proofs::Codes::unsigned_up, crate::proofs::Codes::unsigned_down))]
+fn unsigned_code(m: u64, v: i32) -> Field
     requires { m ≤ 2 ^ 32 }
-    ensures { result ≡ unsigned_code m v }
+    ensures { result ≡ unsigned_code m (Ok v) }
 {
-    match v {
-        Value::Off(k) => Field::Off(k),
-        Value::Plus(n) => below_limit(m, n),
-        Value::Minus(_) => Field::Unfit,
+    if 0 <= v {
+        below_limit(m, u64::from(v.unsigned_abs()))
+    } else {
+        Err(Misfit::Unfit)
     }
 }
 
 // A number of words.
-fn target_code(h: u64, v: Value) -> Field
+#[tactic(auto, using(crate::proofs::Codes::target_whole, crate::proofs::Codes::target_part))]
+fn target_code(h: u64, v: i32) -> Field
     requires { h ≤ 2 ^ 31 }
-    ensures { result ≡ target_code h v }
+    ensures { result ≡ target_code h (Ok v) }
 {
-    match v {
-        Value::Off(k) => Field::Off(k),
-        Value::Plus(n) => if n % 4 == 0 {
-            signed_code(h, Value::Plus(n / 4))
-        } else {
-            Field::Unfit
-        },
-        Value::Minus(n) => if n % 4 == 3 {
-            signed_code(h, Value::Minus(n / 4))
-        } else {
-            Field::Unfit
-        },
+    if v.rem_euclid(4) == 0 {
+        signed_code(h, v.div_euclid(4))
+    } else {
+        Err(Misfit::Unfit)
     }
 }
 
 // A number of doublewords, of bytes whose last three bits are dropped.
-fn frame_code(h: u64, v: Value) -> Field
+#[tactic(auto, using(crate::proofs::Codes::frame_rounded))]
+fn frame_code(h: u64, v: i32) -> Field
     requires { h ≤ 2 ^ 31 }
-    ensures { result ≡ frame_code h v }
+    ensures { result ≡ frame_code h (Ok v) }
 {
-    match v {
-        Value::Off(k) => Field::Off(k),
-        Value::Plus(n) => signed_code(h, Value::Plus(n / 8)),
-        Value::Minus(n) => signed_code(h, Value::Minus(n / 8)),
-    }
+    signed_code(h, v.div_euclid(8))
 }
 
-// By the letter that stands for the operand in the table.
-pub fn number_code(c: u8, v: Value) -> Field
-    ensures { result ≡ code_of (range_of c) v }
+#[tactic(auto, using(crate::proofs::Codes::code_off))]
+pub fn number_code(number: Number, v: Value) -> Field
+    ensures { result ≡ code_of (range_in number) v }
 {
-    if c == b'S' {
-        signed_code(0x8000, v)
-    } else if c == b'U' {
-        unsigned_code(0x1_0000, v)
-    } else if c == b'N' {
-        unsigned_code(32, v)
-    } else if c == b'L' {
-        unsigned_code(64, v)
-    } else if c == b'C' {
-        unsigned_code(4, v)
-    } else if c == b'P' {
-        unsigned_code(1024, v)
-    } else if c == b'E' {
-        unsigned_code(2, v)
-    } else if c == b'F' {
-        frame_code(0x1000, v)
-    } else if c == b'J' {
-        target_code(0x80_0000, v)
-    } else {
-        target_code(0x2000, v)
+    let v = v?;
+    match number {
+        Number::Signed => signed_code(0x8000, v),
+        Number::Unsigned => unsigned_code(0x1_0000, v),
+        Number::Five => unsigned_code(32, v),
+        Number::Six => unsigned_code(64, v),
+        Number::Two => unsigned_code(4, v),
+        Number::Ten => unsigned_code(1024, v),
+        Number::One => unsigned_code(2, v),
+        Number::Frame => frame_code(0x1000, v),
+        Number::Branch => target_code(0x80_0000, v),
+        Number::Conditional => target_code(0x2000, v),
     }
 }

@@ -1,120 +1,70 @@
-// One item of a row read at a column of the line.
-ghost use Rattle.std.specs.Prelude.{◌≡◌, ◌≤◌, length, drop, true, false};
+// One operand of a row read at a column of the line.
+ghost use Rattle.std.specs.Prelude.{◌≡◌, ◌≤◌, false, length, drop};
 ghost use Rattle.syntax.specs.Syntax.{reg, zreg, num};
 ghost use Rattle.syntax.specs.Take.{take_item};
-ghost use Rattle.syntax.specs.declared.field.Field.{Field};
-ghost use Rattle.syntax.specs.Inside.{range_of, operand_at, item_at, step_of, is_operand};
+ghost use Rattle.syntax.specs.Inside.{range_in, item_in, is_byte, step_of};
 
 use crate::field::{Field, below_limit, number_code};
-use expr::byte_at;
-
-// Where the item ends, or the column where no line goes on; and what an operand's field holds.
-#[derive(Clone, Copy)]
-pub struct Step {
-    pub end: usize,
-    pub bad: bool,
-    pub field: Field,
-}
-
-fn stuck(at: usize) -> Step
-    ensures { result ≡ record { end = at; bad = true; field = Field.Unfit } }
-{
-    Step {
-        end: at,
-        bad: true,
-        field: Field::Unfit,
-    }
-}
-
-fn went(end: usize, field: Field) -> Step
-    ensures { result ≡ record { end = end; bad = false; field = field } }
-{
-    Step {
-        end,
-        bad: false,
-        field,
-    }
-}
+use crate::slot::{Number, Slot};
+use expr::{Read, Stuck, byte_at};
 
 // r and digits.
-fn register(text: &[u8], at: usize) -> Step
+#[tactic(auto, using(crate::proofs::Walk::no_reg, crate::proofs::Walk::no_number, crate::proofs::Walk::reg_step, expr::proofs::Bytes::stands_is, expr::proofs::Bytes::stands_not))]
+fn register(text: &[u8], at: usize) -> Result<Read<Field>, Stuck>
     requires { at ≤ length text.now }
     ensures { result ≡ step_of reg at (take_item reg at (drop at text.now)) }
 {
-    let c = byte_at(text, at);
-    if c == 114 {
-        let d = byte_at(text, at + 1);
-        if expr::is_digit(false, d) {
-            let run = expr::digits(text, at + 1, false);
-            let field = below_limit(32, run.value);
-            went(run.end, field)
-        } else {
-            stuck(at + 1)
-        }
-    } else {
-        stuck(at)
+    if byte_at(text, at) != Some(b'r') {
+        return Err(Stuck { column: at });
     }
+    let run = expr::digits(text, at + 1, false);
+    if run.end == at + 1 {
+        return Err(Stuck { column: at + 1 });
+    }
+    Ok(Read {
+        end: run.end,
+        value: below_limit(32, run.value),
+    })
 }
 
 // The same, or a lone 0.
-fn register_or_zero(text: &[u8], at: usize) -> Step
+#[tactic(auto, using(crate::proofs::Walk::zero_step, crate::proofs::Walk::zreg_step, expr::proofs::Bytes::stands_is, expr::proofs::Bytes::stands_not))]
+fn register_or_zero(text: &[u8], at: usize) -> Result<Read<Field>, Stuck>
     requires { at ≤ length text.now }
     ensures { result ≡ step_of zreg at (take_item zreg at (drop at text.now)) }
 {
-    let c = byte_at(text, at);
-    if c == 48 {
-        went(at + 1, Field::Code(0))
+    if byte_at(text, at) == Some(b'0') {
+        Ok(Read {
+            end: at + 1,
+            value: Ok(0),
+        })
     } else {
         register(text, at)
     }
 }
 
-fn number(text: &[u8], at: usize, c: u8) -> Step
+#[tactic(auto, using(crate::proofs::Walk::num_bad, crate::proofs::Walk::num_read))]
+fn number(text: &[u8], at: usize, number: Number) -> Result<Read<Field>, Stuck>
     requires { at ≤ length text.now }
-    ensures { result ≡ step_of (num (range_of c)) at (take_item (num (range_of c)) at (drop at text.now)) }
+    ensures { result ≡ step_of (num (range_in number)) at (take_item (num (range_in number)) at (drop at text.now)) }
 {
-    let got = expr::expression(text, at, 16);
-    match got {
-        expr::Reading::Bad(k) => stuck(k),
-        expr::Reading::Read(e, v) => {
-            let field = number_code(c, v);
-            went(e, field)
-        }
-    }
+    let Read { end, value } = expr::expression(text, at, 16)?;
+    Ok(Read {
+        end,
+        value: number_code(number, value),
+    })
 }
 
-// Upper-case letters stand for operands.
-pub fn is_operand(c: u8) -> bool
-    ensures { result ≡ is_operand c }
+// The operand that a slot stands for: a byte of the row is none.
+pub fn operand(text: &[u8], at: usize, slot: Slot) -> Result<Read<Field>, Stuck>
+    requires inside { at ≤ length text.now }
+    requires no_byte { is_byte slot ≡ false }
+    ensures { result ≡ step_of (item_in slot) at (take_item (item_in slot) at (drop at text.now)) }
 {
-    (65 <= c) & (c <= 90)
-}
-
-// The operand of a letter.
-fn operand(text: &[u8], at: usize, c: u8) -> Step
-    requires { at ≤ length text.now }
-    ensures { result ≡ step_of (operand_at c) at (take_item (operand_at c) at (drop at text.now)) }
-{
-    if c == b'R' {
-        register(text, at)
-    } else if c == b'Z' {
-        register_or_zero(text, at)
-    } else {
-        number(text, at, c)
-    }
-}
-
-pub fn take(text: &[u8], at: usize, c: u8) -> Step
-    requires { at ≤ length text.now }
-    ensures { result ≡ step_of (item_at c) at (take_item (item_at c) at (drop at text.now)) }
-{
-    if is_operand(c) {
-        return operand(text, at, c);
-    }
-    let b = byte_at(text, at);
-    if b == c as u64 {
-        went(at + 1, Field::Unfit)
-    } else {
-        stuck(at)
+    match slot {
+        Slot::Byte(_) => unreachable!(),
+        Slot::Register => register(text, at),
+        Slot::Base => register_or_zero(text, at),
+        Slot::Number(n) => number(text, at, n),
     }
 }

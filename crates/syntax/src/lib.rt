@@ -2,9 +2,10 @@
 #![tactic(auto)]
 
 pub mod field;
+pub mod five;
 pub mod item;
 pub mod line;
 pub mod print;
-pub mod queue;
 pub mod row;
+pub mod slot;
 pub mod table;

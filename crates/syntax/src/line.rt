@@ -1,85 +1,57 @@
 // A line against one row of the table: a semicolon ends the row.
 ghost use Rattle.std.specs.Prelude.{◌≡◌, length};
-ghost use Rattle.syntax.specs.Inside.{item_at, pattern_of, spot_of, pushed, push_on, no_operands, finish_of};
+ghost use Rattle.syntax.specs.Inside.{pattern_of, spot_of, no_operands, finish_of};
 
 use crate::field::Field;
-use crate::item::{is_operand, take};
+use crate::five::Five;
+use crate::item::operand;
+use crate::slot::Slot;
+use expr::{Stuck, byte_at};
 
 // The operands of a line: a is the last, b the one before it.
-#[derive(Clone, Copy)]
-pub struct Operands {
-    pub a: Field,
-    pub b: Field,
-    pub c: Field,
-    pub d: Field,
-    pub e: Field,
-}
-
-// The whole line, or the column where no line of the row goes on.
-#[derive(Clone, Copy)]
-pub enum Spot {
-    Whole(Operands),
-    Bad(usize),
-}
+pub type Operands = Five<Field>;
 
 fn no_operands() -> Operands
     ensures { result ≡ no_operands }
 {
-    Operands {
-        a: Field::Code(0),
-        b: Field::Code(0),
-        c: Field::Code(0),
-        d: Field::Code(0),
-        e: Field::Code(0),
+    Five {
+        a: Ok(0),
+        b: Ok(0),
+        c: Ok(0),
+        d: Ok(0),
+        e: Ok(0),
     }
 }
 
-fn push(o: Operands, f: Field) -> Operands
-    ensures { result ≡ pushed o f }
-{
-    let b = o.a;
-    let c = o.b;
-    let d = o.c;
-    let e = o.d;
-    Operands { a: f, b, c, d, e }
-}
-
-// A byte of the row is no operand.
-fn push_on(c: u8, o: Operands, f: Field) -> Operands
-    ensures { result ≡ push_on (item_at c) o f }
-{
-    if is_operand(c) { push(o, f) } else { o }
-}
-
-fn finish(text: &[u8], at: usize, o: Operands) -> Spot
-    ensures { result ≡ finish_of (length text.now) at o }
+fn finish(text: &[u8], at: usize, operands: Operands) -> Result<Operands, Stuck>
+    ensures { result ≡ finish_of (length text.now) at operands }
 {
     if at == text.len() {
-        Spot::Whole(o)
+        Ok(operands)
     } else {
-        Spot::Bad(at)
+        Err(Stuck { column: at })
     }
 }
 
-pub fn line(text: &[u8], row: &[u8]) -> Spot
+#[tactic(auto, using(crate::proofs::Walk::operand_inside, crate::proofs::Walk::line_operand, crate::proofs::Walk::line_stuck, crate::proofs::Walk::line_byte, crate::proofs::Walk::line_lacks, expr::proofs::Bytes::stands_is, expr::proofs::Bytes::stands_not, crate::proofs::Walk::line_ended, crate::proofs::Walk::line_over), unfolding(crate::specs::Inside::spot_of))]
+pub fn line(text: &[u8], row: &[u8]) -> Result<Operands, Stuck>
     ensures { result ≡ spot_of (pattern_of row.now) text.now }
 {
-    let mut i = 0;
-    let mut j = 0;
-    let mut o = no_operands();
-    while j < row.len() {
-        let c = row[j];
-        if c == b';' {
-            return finish(text, i, o);
+    let mut at = 0;
+    let mut operands = no_operands();
+    for c in row {
+        if *c == b';' {
+            return finish(text, at, operands);
         }
-        let step = take(text, i, c);
-        if step.bad {
-            return Spot::Bad(step.end);
+        match Slot::from(*c) {
+            Slot::Byte(b) if byte_at(text, at) == Some(b) => at += 1,
+            Slot::Byte(_) => return Err(Stuck { column: at }),
+            slot => {
+                let read = operand(text, at, slot)?;
+                operands = operands.push(read.value);
+                at = read.end;
+            }
         }
-        let field = step.field;
-        o = push_on(c, o, field);
-        i = step.end;
-        j += 1;
     }
-    finish(text, i, o)
+    finish(text, at, operands)
 }

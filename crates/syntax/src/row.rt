@@ -1,7 +1,6 @@
 // Where the row of an instruction's mnemonic stands in the table: the letter that it begins with, and its place among that
 // letter's rows.
 ghost use Rattle.std.specs.Prelude.{◌≡◌, ◌<◌};
-ghost use Rattle.word.specs.Bits.{digit};
 ghost use Rattle.syntax.specs.Rows.{SameRow, row_after, row_of, arith_imm_row, arith_row, arith_one_row, multiply_row, logic_imm_row, logic_row, logic_one_row, compare_imm_row, compare_row, rotate_row, rotate_double_row, shift_row, load_row, load_indexed_row, store_row, store_indexed_row, stack_row, branch_row, spr_row, move_row, cache_row};
 ghost use Rattle.insn.specs.declared.instr.Instr.{Instr};
 
@@ -18,12 +17,6 @@ fn at(letter: u8, row: usize) -> Row
     ensures { (result.letter ≡ letter) × (result.row ≡ row) }
 {
     Row { letter, row }
-}
-
-fn bit(b: bool) -> usize
-    ensures { (result ≡ digit b) × (result < 2) }
-{
-    if b { 1 } else { 0 }
 }
 
 // So many rows further on.
@@ -56,11 +49,20 @@ fn arithmetic(x: Arithmetic) -> Row
 {
     match x {
         Arithmetic::Immediate { op, .. } => arith_imm_row(op),
-        Arithmetic::Register { op, oe, rc, .. } => plus(arith_row(op), 2 * bit(oe) + bit(rc)),
-        Arithmetic::One { op, oe, rc, .. } => plus(arith_one_row(op), 2 * bit(oe) + bit(rc)),
-        Arithmetic::Multiply { sign, rc, .. } => plus(multiply_row(sign), bit(rc)),
+        Arithmetic::Register { op, oe, rc, .. } => plus(
+            arith_row(op),
+            2 * usize::from(oe) + usize::from(rc),
+        ),
+        Arithmetic::One { op, oe, rc, .. } => plus(
+            arith_one_row(op),
+            2 * usize::from(oe) + usize::from(rc),
+        ),
+        Arithmetic::Multiply { sign, rc, .. } => plus(multiply_row(sign), usize::from(rc)),
         Arithmetic::MultiplyImm { .. } => at(b'm', 10),
-        Arithmetic::MultiplyLow { oe, rc, .. } => at(b'm', 11 + (2 * bit(oe) + bit(rc))),
+        Arithmetic::MultiplyLow { oe, rc, .. } => at(
+            b'm',
+            11 + (2 * usize::from(oe) + usize::from(rc)),
+        ),
     }
 }
 
@@ -69,8 +71,8 @@ fn logical(x: Logical) -> Row
 {
     match x {
         Logical::Immediate { op, .. } => logic_imm_row(op),
-        Logical::Register { op, rc, .. } => plus(logic_row(op), bit(rc)),
-        Logical::One { op, rc, .. } => plus(logic_one_row(op), bit(rc)),
+        Logical::Register { op, rc, .. } => plus(logic_row(op), usize::from(rc)),
+        Logical::One { op, rc, .. } => plus(logic_one_row(op), usize::from(rc)),
     }
 }
 
@@ -87,11 +89,11 @@ fn rotate(x: Rotate) -> Row
     ensures { SameRow result (row_of (Instr.Rotate x)) }
 {
     match x {
-        Rotate::Immediate { op, rc, .. } => plus(rotate_row(op), bit(rc)),
-        Rotate::Register { rc, .. } => at(b'r', 4 + bit(rc)),
-        Rotate::Shift { op, rc, .. } => plus(shift_row(op), bit(rc)),
-        Rotate::Srawi { rc, .. } => at(b's', 27 + bit(rc)),
-        Rotate::Double { op, rc, .. } => plus(rotate_double_row(op), bit(rc)),
+        Rotate::Immediate { op, rc, .. } => plus(rotate_row(op), usize::from(rc)),
+        Rotate::Register { rc, .. } => at(b'r', 4 + usize::from(rc)),
+        Rotate::Shift { op, rc, .. } => plus(shift_row(op), usize::from(rc)),
+        Rotate::Srawi { rc, .. } => at(b's', 27 + usize::from(rc)),
+        Rotate::Double { op, rc, .. } => plus(rotate_double_row(op), usize::from(rc)),
     }
 }
 
@@ -99,12 +101,12 @@ fn load_store(x: LoadStore) -> Row
     ensures { SameRow result (row_of (Instr.LoadStore x)) }
 {
     match x {
-        LoadStore::Load { width, update, .. } => plus(load_row(width), bit(update)),
+        LoadStore::Load { width, update, .. } => plus(load_row(width), usize::from(update)),
         LoadStore::LoadIndexed { width, .. } => load_indexed_row(width),
-        LoadStore::Store { width, update, .. } => plus(store_row(width), bit(update)),
+        LoadStore::Store { width, update, .. } => plus(store_row(width), usize::from(update)),
         LoadStore::StoreIndexed { width, .. } => store_indexed_row(width),
-        LoadStore::LoadDouble { update, .. } => at(b'l', 9 + bit(update)),
-        LoadStore::StoreDouble { update, .. } => at(b's', 38 + bit(update)),
+        LoadStore::LoadDouble { update, .. } => at(b'l', 9 + usize::from(update)),
+        LoadStore::StoreDouble { update, .. } => at(b's', 38 + usize::from(update)),
     }
 }
 
@@ -112,9 +114,9 @@ fn branch(x: Branch) -> Row
     ensures { SameRow result (row_of (Instr.Branch x)) }
 {
     match x {
-        Branch::Always { aa, lk, .. } => at(b'b', 2 * bit(aa) + bit(lk)),
-        Branch::Conditional { aa, lk, .. } => at(b'b', 4 + (2 * bit(aa) + bit(lk))),
-        Branch::Register { op, lk, .. } => plus(branch_row(op), bit(lk)),
+        Branch::Always { aa, lk, .. } => at(b'b', 2 * usize::from(aa) + usize::from(lk)),
+        Branch::Conditional { aa, lk, .. } => at(b'b', 4 + (2 * usize::from(aa) + usize::from(lk))),
+        Branch::Register { op, lk, .. } => plus(branch_row(op), usize::from(lk)),
     }
 }
 
@@ -130,7 +132,8 @@ fn system(x: System) -> Row
     }
 }
 
-// By mnemonic.
+// The rows of the operations of each kind, all by mnemonic.
+
 fn arith_imm_row(op: ArithImmOp) -> Row
     ensures { SameRow result (arith_imm_row op) × (result.row < 64) }
 {

@@ -1,109 +1,28 @@
 // The syntax lines of 9.4, a row of 28 bytes for each mnemonic: the word of one of its instructions, and what stands in its
 // lines. R is a register, Z a register or a lone 0, and each other upper-case letter a number: S signed and U unsigned of 16
 // bits, N of five, L of six, C of two, P of ten and E of one; J and K the targets of b and bc, and F a frame in bytes.
-ghost use Rattle.std.specs.Prelude.{◌≡◌, ℕ, ◌*◌, ◌+◌, ◌≤◌, ◌<◌, length, []};
+// A row is one text with its word, not a pair: `matches` holds both against the instruction in one list of bytes.
+ghost use Rattle.std.specs.Prelude.{◌≡◌, ◌*◌, ◌/◌, ◌+◌, ◌≤◌, ◌<◌, length};
 ghost use Rattle.std.proofs.lemmas.List.Edits.{sets};
 ghost use Rattle.insn.specs.declared.profile.Profile.{Profile};
-ghost use Rattle.syntax.specs.declared.table.Job.{Job};
-ghost use Rattle.syntax.specs.declared.table.Done.{Done};
-ghost use Rattle.syntax.specs.Rows.{samples, samples_a, samples_b, samples_c, samples_d, samples_e, samples_l, samples_m, samples_n, samples_o, samples_r, samples_s, samples_t, samples_w, samples_x};
-ghost use Rattle.syntax.specs.Inside.{pattern_at, word_at, spot_of, larger, rows_from, printed, wide, done_of, out_of, Printable, WithRows};
+ghost use Rattle.syntax.specs.Rows.{samples};
+ghost use Rattle.syntax.specs.Inside.{row_at, word_at, rows_from, rows_on, StandFor, ReadIn, PrintedIn};
 
-use crate::line::{Operands, Spot, line};
-use crate::print::print;
-use crate::queue::Queue;
+use crate::line::{Operands, line};
+use crate::print::{Queue, print};
 use crate::row::Row;
+use expr::Stuck;
 use insn::profile::Profile;
 
-// What is done with the rows of a letter: a line is read, or a row printed.
+// The word of the row that has the line, and the line's operands.
 #[derive(Clone, Copy)]
-pub enum Job {
-    Read,
-    Print(usize, Queue),
+pub struct Found {
+    pub word: u32,
+    pub operands: Operands,
 }
 
-// The word of the row that has the line, and the line's operands; the column where no line of any row goes on; or how many
-// bytes were printed.
-#[derive(Clone, Copy)]
-pub enum Done {
-    Row(u32, Operands),
-    Bad(usize),
-    Printed(usize),
-}
-
-fn larger_of(a: usize, b: usize) -> usize
-    ensures { result ≡ larger a b }
-{
-    if a < b { b } else { a }
-}
-
-// A line against row n.
-fn against(text: &[u8], rows: &[u8], n: usize) -> Spot
-    requires { n * 28 + 28 ≤ length rows.now }
-    ensures { result ≡ spot_of (pattern_at rows.now n) text.now }
-{
-    let from = n * 28 + 9;
-    let to = n * 28 + 28;
-    line(text, &rows[from..to])
-}
-
-// The word that row n begins with.
-fn word_at(rows: &[u8], n: usize) -> u32
-    requires { n * 28 + 28 ≤ length rows.now }
-    ensures { result ≡ word_at rows.now n }
-{
-    let run = expr::digits(rows, n * 28, true);
-    (run.value % 0x1_0000_0000) as u32
-}
-
-fn search(text: &[u8], rows: &[u8], count: usize) -> Done
-    requires { count * 28 ≤ length rows.now }
-    ensures { result ≡ rows_from count 0 0 rows.now text.now }
-{
-    let mut n = 0;
-    let mut best = 0;
-    while n < count {
-        let spot = against(text, rows, n);
-        match spot {
-            Spot::Whole(o) => {
-                return Done::Row(word_at(rows, n), o);
-            }
-            Spot::Bad(k) => {
-                best = larger_of(best, k);
-            }
-        }
-        n += 1;
-    }
-    Done::Bad(best)
-}
-
-fn print_in(out: &mut [u8], rows: &[u8], n: usize, fields: Queue) -> usize
-    requires { (n * 28 + 28 ≤ length rows.now) × (wide (pattern_at rows.now n) ≤ length out.old) }
-    ensures { (result ≡ length (printed (pattern_at rows.now n) fields)) × (out.new ≡ sets out.old 0 (printed (pattern_at rows.now n) fields)) }
-{
-    let from = n * 28 + 9;
-    let to = n * 28 + 28;
-    print(out, &rows[from..to], fields)
-}
-
-fn work(job: Job, text: &[u8], out: &mut [u8], rows: &[u8], count: usize) -> Done
-    requires count_in_bounds { (count * 28 ≤ length rows.now) × ((n : ℕ) → n < count → wide (pattern_at rows.now n) ≤ 64) }
-    requires printable { Printable count job out.old }
-    ensures { (result ≡ done_of rows.now count job text.now) × (out.new ≡ out_of rows.now job out.old) }
-{
-    match job {
-        Job::Read => search(text, rows, count),
-        Job::Print(n, q) => Done::Printed(print_in(out, rows, n, q)),
-    }
-}
-
-// The rows whose mnemonics begin with a letter: a function for each, so that only its rows are laid out in memory. The 42X's
-// alone stand last, and the 42 is held back from them.
-fn rows_of_a(job: Job, text: &[u8], out: &mut [u8]) -> Done
-    requires { Printable (length samples_a) job out.old }
-    ensures { WithRows samples_a job text.now out.old out.new result }
-{
-    let rows = b"\
+// The rows whose mnemonics begin with a letter. Those of the 42X alone stand last.
+const A: &[u8] = b"\
 38000000 addi R,Z,S;        \
 3C000000 addis R,Z,S;       \
 30000000 addic R,R,S;       \
@@ -134,14 +53,8 @@ fn rows_of_a(job: Job, text: &[u8], out: &mut [u8]) -> Done
 7C000039 and. R,R,R;        \
 7C000078 andc R,R,R;        \
 7C000079 andc. R,R,R;       ";
-    work(job, text, out, rows, 30)
-}
 
-fn rows_of_b(job: Job, text: &[u8], out: &mut [u8]) -> Done
-    requires { Printable (length samples_b) job out.old }
-    ensures { WithRows samples_b job text.now out.old out.new result }
-{
-    let rows = b"\
+const B: &[u8] = b"\
 48000000 b J;               \
 48000001 bl J;              \
 48000002 ba J;              \
@@ -154,54 +67,30 @@ fn rows_of_b(job: Job, text: &[u8], out: &mut [u8]) -> Done
 4E800021 bclrl N,C;         \
 4E800420 bcctr N,C;         \
 4E800421 bcctrl N,C;        ";
-    work(job, text, out, rows, 12)
-}
 
-fn rows_of_c(job: Job, text: &[u8], out: &mut [u8]) -> Done
-    requires { Printable (length samples_c) job out.old }
-    ensures { WithRows samples_c job text.now out.old out.new result }
-{
-    let rows = b"\
+const C: &[u8] = b"\
 7C000034 cntlzw R,R;        \
 7C000035 cntlzw. R,R;       \
 2C000000 cmpwi R,S;         \
 28000000 cmplwi R,U;        \
 7C000000 cmpw R,R;          \
 7C000040 cmplw R,R;         ";
-    work(job, text, out, rows, 6)
-}
 
-fn rows_of_d(job: Job, text: &[u8], out: &mut [u8]) -> Done
-    requires { Printable (length samples_d) job out.old }
-    ensures { WithRows samples_d job text.now out.old out.new result }
-{
-    let rows = b"\
+const D: &[u8] = b"\
 7C0000AC dcbf Z,R;          \
 7C0003AC dcbi Z,R;          \
 7C00022C dcbt Z,R;          \
 7C0007EC dcbz Z,R;          ";
-    work(job, text, out, rows, 4)
-}
 
-fn rows_of_e(job: Job, text: &[u8], out: &mut [u8]) -> Done
-    requires { Printable (length samples_e) job out.old }
-    ensures { WithRows samples_e job text.now out.old out.new result }
-{
-    let rows = b"\
+const E: &[u8] = b"\
 7C000238 eqv R,R,R;         \
 7C000239 eqv. R,R,R;        \
 7C000774 extsb R,R;         \
 7C000775 extsb. R,R;        \
 7C000734 extsh R,R;         \
 7C000735 extsh. R,R;        ";
-    work(job, text, out, rows, 6)
-}
 
-fn rows_of_l(profile: Profile, job: Job, text: &[u8], out: &mut [u8]) -> Done
-    requires { Printable (length (samples_l profile)) job out.old }
-    ensures { WithRows (samples_l profile) job text.now out.old out.new result }
-{
-    let rows = b"\
+const L: &[u8] = b"\
 88020000 lbz R,S(Z);        \
 8C020000 lbzu R,S(R);       \
 A0020000 lhz R,S(Z);        \
@@ -214,17 +103,8 @@ A4020000 lhzu R,S(R);       \
 14020000 lvd R,S(Z);        \
 24020000 lvdu R,S(R);       \
 E821000B lsku R,F(R);       ";
-    match profile {
-        Profile::Ppe42 => work(job, text, out, rows, 11),
-        Profile::Ppe42x => work(job, text, out, rows, 12),
-    }
-}
 
-fn rows_of_m(profile: Profile, job: Job, text: &[u8], out: &mut [u8]) -> Done
-    requires { Printable (length (samples_m profile)) job out.old }
-    ensures { WithRows (samples_m profile) job text.now out.old out.new result }
-{
-    let rows = b"\
+const M: &[u8] = b"\
 10000350 mullhw R,R,R;      \
 10000351 mullhw. R,R,R;     \
 10000310 mullhwu R,R,R;     \
@@ -240,17 +120,8 @@ fn rows_of_m(profile: Profile, job: Job, text: &[u8], out: &mut [u8]) -> Done
 7C0001D7 mullw. R,R,R;      \
 7C0005D6 mullwo R,R,R;      \
 7C0005D7 mullwo. R,R,R;     ";
-    match profile {
-        Profile::Ppe42 => work(job, text, out, rows, 10),
-        Profile::Ppe42x => work(job, text, out, rows, 15),
-    }
-}
 
-fn rows_of_n(job: Job, text: &[u8], out: &mut [u8]) -> Done
-    requires { Printable (length samples_n) job out.old }
-    ensures { WithRows samples_n job text.now out.old out.new result }
-{
-    let rows = b"\
+const N: &[u8] = b"\
 7C0000D0 neg R,R;           \
 7C0000D1 neg. R,R;          \
 7C0004D0 nego R,R;          \
@@ -259,28 +130,16 @@ fn rows_of_n(job: Job, text: &[u8], out: &mut [u8]) -> Done
 7C0003B9 nand. R,R,R;       \
 7C0000F8 nor R,R,R;         \
 7C0000F9 nor. R,R,R;        ";
-    work(job, text, out, rows, 8)
-}
 
-fn rows_of_o(job: Job, text: &[u8], out: &mut [u8]) -> Done
-    requires { Printable (length samples_o) job out.old }
-    ensures { WithRows samples_o job text.now out.old out.new result }
-{
-    let rows = b"\
+const O: &[u8] = b"\
 60000000 ori R,R,U;         \
 64000000 oris R,R,U;        \
 7C000378 or R,R,R;          \
 7C000379 or. R,R,R;         \
 7C000338 orc R,R,R;         \
 7C000339 orc. R,R,R;        ";
-    work(job, text, out, rows, 6)
-}
 
-fn rows_of_r(profile: Profile, job: Job, text: &[u8], out: &mut [u8]) -> Done
-    requires { Printable (length (samples_r profile)) job out.old }
-    ensures { WithRows (samples_r profile) job text.now out.old out.new result }
-{
-    let rows = b"\
+const R: &[u8] = b"\
 50000000 rlwimi R,R,N,N,N;  \
 50000001 rlwimi. R,R,N,N,N; \
 54000000 rlwinm R,R,N,N,N;  \
@@ -294,17 +153,8 @@ fn rows_of_r(profile: Profile, job: Job, text: &[u8], out: &mut [u8]) -> Done
 78000005 rldicr. R,R,L,L;   \
 7800000C rldimi R,R,L,L;    \
 7800000D rldimi. R,R,L,L;   ";
-    match profile {
-        Profile::Ppe42 => work(job, text, out, rows, 7),
-        Profile::Ppe42x => work(job, text, out, rows, 13),
-    }
-}
 
-fn rows_of_s(profile: Profile, job: Job, text: &[u8], out: &mut [u8]) -> Done
-    requires { Printable (length (samples_s profile)) job out.old }
-    ensures { WithRows (samples_s profile) job text.now out.old out.new result }
-{
-    let rows = b"\
+const S: &[u8] = b"\
 20000000 subfic R,R,S;      \
 7C000050 subf R,R,R;        \
 7C000051 subf. R,R,R;       \
@@ -347,76 +197,104 @@ B4020000 sthu R,S(R);       \
 58020000 stvdu R,S(R);      \
 7C0004AC sync;              \
 F821FFFB stsku R,F(R);      ";
-    match profile {
-        Profile::Ppe42 => work(job, text, out, rows, 41),
-        Profile::Ppe42x => work(job, text, out, rows, 42),
-    }
-}
 
-fn rows_of_t(job: Job, text: &[u8], out: &mut [u8]) -> Done
-    requires { Printable (length samples_t) job out.old }
-    ensures { WithRows samples_t job text.now out.old out.new result }
-{
-    let rows = b"\
+const T: &[u8] = b"\
 7C000008 tw N,R,R;          ";
-    work(job, text, out, rows, 1)
-}
 
-fn rows_of_w(job: Job, text: &[u8], out: &mut [u8]) -> Done
-    requires { Printable (length samples_w) job out.old }
-    ensures { WithRows samples_w job text.now out.old out.new result }
-{
-    let rows = b"\
+const W: &[u8] = b"\
 7C000106 wrtee R;           \
 7C000146 wrteei E;          ";
-    work(job, text, out, rows, 2)
-}
 
-fn rows_of_x(job: Job, text: &[u8], out: &mut [u8]) -> Done
-    requires { Printable (length samples_x) job out.old }
-    ensures { WithRows samples_x job text.now out.old out.new result }
-{
-    let rows = b"\
+const X: &[u8] = b"\
 68000000 xori R,R,U;        \
 6C000000 xoris R,R,U;       \
 7C000278 xor R,R,R;         \
 7C000279 xor. R,R,R;        ";
-    work(job, text, out, rows, 4)
+
+// The 42 is held back from all but so many rows; by their number, as `rows_on` says.
+fn of_core(profile: Profile, rows: &'static [u8], count: usize) -> &'static [u8]
+    requires { count * 28 ≤ length rows.now }
+    ensures { result.now ≡ rows_on profile count rows.now }
+{
+    match profile {
+        Profile::Ppe42 => &rows[..count * 28],
+        Profile::Ppe42x => rows,
+    }
 }
 
-pub fn at_letter(profile: Profile, c: u8, job: Job, text: &[u8], out: &mut [u8]) -> Done
-    requires { Printable (length (samples profile c)) job out.old }
-    ensures { WithRows (samples profile c) job text.now out.old out.new result }
+fn rows_of(profile: Profile, letter: u8) -> &'static [u8]
+    ensures { StandFor result.now (samples profile letter) }
 {
-    match c {
-        b'a' => rows_of_a(job, text, out),
-        b'b' => rows_of_b(job, text, out),
-        b'c' => rows_of_c(job, text, out),
-        b'd' => rows_of_d(job, text, out),
-        b'e' => rows_of_e(job, text, out),
-        b'l' => rows_of_l(profile, job, text, out),
-        b'm' => rows_of_m(profile, job, text, out),
-        b'n' => rows_of_n(job, text, out),
-        b'o' => rows_of_o(job, text, out),
-        b'r' => rows_of_r(profile, job, text, out),
-        b's' => rows_of_s(profile, job, text, out),
-        b't' => rows_of_t(job, text, out),
-        b'w' => rows_of_w(job, text, out),
-        b'x' => rows_of_x(job, text, out),
-        _ => Done::Bad(0),
+    match letter {
+        b'a' => A,
+        b'b' => B,
+        b'c' => C,
+        b'd' => D,
+        b'e' => E,
+        b'l' => of_core(profile, L, 11),
+        b'm' => of_core(profile, M, 10),
+        b'n' => N,
+        b'o' => O,
+        b'r' => of_core(profile, R, 7),
+        b's' => of_core(profile, S, 41),
+        b't' => T,
+        b'w' => W,
+        b'x' => X,
+        _ => b"",
     }
+}
+
+// What stands in the lines of row n.
+fn row_at(rows: &[u8], n: usize) -> &[u8]
+    requires { n * 28 + 28 ≤ length rows.now }
+    ensures { result.now ≡ row_at rows.now n }
+{
+    &rows[n * 28 + 9..n * 28 + 28]
+}
+
+// The word that row n begins with.
+#[tactic(auto, unfolding(crate::specs::Inside::word_at))]
+fn word_at(rows: &[u8], n: usize) -> u32
+    requires { n * 28 + 28 ≤ length rows.now }
+    ensures { result ≡ word_at rows.now n }
+{
+    let run = expr::digits(rows, n * 28, true);
+    (run.value % 0x1_0000_0000) as u32
+}
+
+// By the number of a row, as `rows_from` counts: `word_at` reads on in the table, and a chunk alone does not end the digits.
+#[tactic(auto, using(crate::proofs::Walk::rows_row, crate::proofs::Walk::rows_end), unfolding(crate::specs::Inside::pattern_at))]
+fn search(text: &[u8], rows: &[u8]) -> Result<Found, Stuck>
+    ensures { result ≡ rows_from (length rows.now / 28) 0 0 rows.now text.now }
+{
+    let mut best = 0;
+    for n in 0..rows.len() / 28 {
+        match line(text, row_at(rows, n)) {
+            Ok(operands) => {
+                return Ok(Found {
+                    word: word_at(rows, n),
+                    operands,
+                });
+            }
+            Err(stuck) => best = best.max(stuck.column),
+        }
+    }
+    Err(Stuck { column: best })
+}
+
+// A line against the rows of a letter; or the column where no line of any of them goes on.
+pub fn find(profile: Profile, letter: u8, text: &[u8]) -> Result<Found, Stuck>
+    ensures { ReadIn (samples profile letter) text.now result }
+{
+    search(text, rows_of(profile, letter))
 }
 
 // The row of an instruction's mnemonic printed with its operands: the 42X has every row.
+#[tactic(auto, using(crate::proofs::Letters::row_narrow), unfolding(crate::specs::Inside::pattern_at))]
 pub fn print_row(out: &mut [u8], row: Row, fields: Queue) -> usize
-    requires { Printable (length (samples Profile.Ppe42x row.letter)) (Job.Print row.row fields) out.old }
-    ensures { WithRows (samples Profile.Ppe42x row.letter) (Job.Print row.row fields) [] out.old out.new (Done.Printed result) }
+    requires { (row.row < length (samples Profile.Ppe42x row.letter)) × (64 ≤ length out.old) }
+    ensures { PrintedIn (samples Profile.Ppe42x row.letter) row.row fields out.old out.new result }
 {
-    let job = Job::Print(row.row, fields);
-    let done = at_letter(Profile::Ppe42x, row.letter, job, b"", out);
-    match done {
-        Done::Printed(n) => n,
-        Done::Row(_, _) => 0,
-        Done::Bad(_) => 0,
-    }
+    let rows = rows_of(Profile::Ppe42x, row.letter);
+    print(out, row_at(rows, row.row), fields)
 }

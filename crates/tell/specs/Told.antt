@@ -1,5 +1,5 @@
 -- What a step would do: the six lines in their order (machine/specs/Step), and the number of each answer in include/ppe42.h.
-use Rattle.std.specs.Prelude.{ℕ, List, eqb}
+use Rattle.std.specs.Prelude.{ℕ, List, eqb, Option, Some, None}
 use Rattle.word.specs.Bits.{bit_at}
 use Rattle.memory.specs.Access.{pick}
 use Rattle.insn.specs.declared.profile.Profile.{Profile}
@@ -8,20 +8,18 @@ use Rattle.machine.specs.Step.{highest_of}
 use Rattle.machine.specs.declared.state.State.{State}
 use Rattle.machine.specs.declared.interrupt.Cause.{Cause}
 use Rattle.machine.specs.declared.interrupt.Vector.{Vector}
-use Rattle.machine.specs.declared.step.Pending.{Pending}
 use Rattle.tell.specs.Fault.{raised_of}
-use Rattle.tell.specs.declared.fault.Raised.{Raised}
 use Rattle.tell.specs.declared.told.Told.{Told}
 
 -- line 6: the instruction at IAR, or the interrupt that it raises
-abbrev pub running_told : Raised → Told
-running_told Raised.Nothing = Told.Executes
-running_told (Raised.Raises c) = Told.Faults c
+abbrev pub running_told : Option Cause → Told
+running_told None = Told.Executes
+running_told (Some c) = Told.Faults c
 
 -- line 4, an asynchronous interrupt, then line 5, MSR[WE] (13)
-abbrev pub interruptible_told : Profile → State → List ℕ → Pending → Told
-interruptible_told p s m (Pending.Take v) = Told.Takes v
-interruptible_told p s m Pending.Nothing = pick (bit_at s.msr 13) Told.Waits (running_told (raised_of p s m))
+abbrev pub interruptible_told : Profile → State → List ℕ → Option Vector → Told
+interruptible_told p s m (Some v) = Told.Takes v
+interruptible_told p s m None = pick (bit_at s.msr 13) Told.Waits (running_told (raised_of p s m))
 
 -- line 1, halted; line 2, the events; line 3, the watchdog's action
 unfoldable pub told_of : Profile → State → List ℕ → ℕ → Told

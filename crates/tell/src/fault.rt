@@ -1,133 +1,68 @@
 // The synchronous interrupt that an instruction raises, if it raises one.
 ghost use Rattle.std.specs.Prelude.{◌≡◌};
 ghost use Rattle.insn.specs.Read.{decode_on};
-ghost use Rattle.machine.specs.Stack.{stores_of};
-ghost use Rattle.tell.specs.Fault.{access_raises, load_store_raises, missed_raises, stack_raises, cache_raises, trap_raises, execute_raises, decoded_raises, raised_of};
+ghost use Rattle.tell.specs.Fault.{access_raises, load_store_raises, stack_raises, cache_raises, trap_raises, execute_raises, decoded_raises, raised_of};
 
-use insn::instr::{CacheOp, Decoded, Instr, LoadStore, StackOp};
+use insn::instr::{CacheOp, Instr, LoadStore, StackOp};
 use insn::profile::{Profile, is_42x};
 use insn::read::read;
-use machine::interrupt::Cause;
-use machine::stack::{Missed, doublewords, frame_missed};
+use machine::interrupt::{Cause, cause_of};
+use machine::stack::{frame_served, stores};
 use machine::state::State;
-use memory::access::{Access, access_at, block_access, double_access};
-use memory::load::{Loaded, fetch};
+use memory::access::{Fault, access_at, block_access, double_access};
+use memory::load::fetch;
 use word::bits::{Bit, bit_at};
 
-#[derive(Clone, Copy)]
-pub enum Raised {
-    Nothing,
-    Raises(Cause),
-}
-
-fn access_raises(access: Access, ea: u32, store: bool) -> Raised
+fn access_raises(access: Result<(), Fault>, ea: u32, store: bool) -> Option<Cause>
     ensures { result ≡ access_raises access ea store }
 {
-    match access {
-        Access::Served => Raised::Nothing,
-        Access::Unaligned => Raised::Raises(Cause::Alignment { address: ea, store }),
-        Access::Outside => Raised::Raises(Cause::DataStorage { address: ea, store }),
-    }
+    let fault = access.err()?;
+    Some(cause_of(fault, ea, store))
 }
 
-fn load_store_raises(state: State, mem: &[u8], i: LoadStore) -> Raised
+fn load_store_raises(state: State, mem: &[u8], i: LoadStore) -> Option<Cause>
     ensures { result ≡ load_store_raises state mem.now i }
 {
     match i {
-        LoadStore::Load {
-            width,
-            update: _,
-            rt: _,
-            ra,
-            d,
-        } => {
+        LoadStore::Load { width, ra, d, .. } => {
             let ea = state.offset_ea(ra, d);
             access_raises(access_at(mem.len(), ea, width), ea, false)
         }
-        LoadStore::LoadIndexed {
-            width,
-            rt: _,
-            ra,
-            rb,
-        } => {
+        LoadStore::LoadIndexed { width, ra, rb, .. } => {
             let ea = state.indexed_ea(ra, rb);
             access_raises(access_at(mem.len(), ea, width), ea, false)
         }
-        LoadStore::Store {
-            width,
-            update: _,
-            rs: _,
-            ra,
-            d,
-        } => {
+        LoadStore::Store { width, ra, d, .. } => {
             let ea = state.offset_ea(ra, d);
             access_raises(access_at(mem.len(), ea, width), ea, true)
         }
-        LoadStore::StoreIndexed {
-            width,
-            rs: _,
-            ra,
-            rb,
-        } => {
+        LoadStore::StoreIndexed { width, ra, rb, .. } => {
             let ea = state.indexed_ea(ra, rb);
             access_raises(access_at(mem.len(), ea, width), ea, true)
         }
-        LoadStore::LoadDouble {
-            update: _,
-            dt: _,
-            ra,
-            d,
-        } => {
+        LoadStore::LoadDouble { ra, d, .. } => {
             let ea = state.offset_ea(ra, d);
             access_raises(double_access(mem.len(), ea), ea, false)
         }
-        LoadStore::StoreDouble {
-            update: _,
-            ds: _,
-            ra,
-            d,
-        } => {
+        LoadStore::StoreDouble { ra, d, .. } => {
             let ea = state.offset_ea(ra, d);
             access_raises(double_access(mem.len(), ea), ea, true)
         }
     }
 }
 
-fn stores(op: StackOp) -> bool
-    ensures { result ≡ stores_of op }
-{
-    match op {
-        StackOp::Lsku => false,
-        StackOp::Stsku => true,
-    }
-}
-
-fn missed_raises(missed: Missed, store: bool) -> Raised
-    ensures { result ≡ missed_raises store missed }
-{
-    match missed {
-        Missed::Nothing => Raised::Nothing,
-        Missed::Unaligned(address) => Raised::Raises(Cause::Alignment { address, store }),
-        Missed::Outside(address) => Raised::Raises(Cause::DataStorage { address, store }),
-    }
-}
-
-fn stack_raises(state: State, mem: &[u8], op: StackOp, ra: u8, dd: u16) -> Raised
+fn stack_raises(state: State, mem: &[u8], op: StackOp, ra: u8, dd: u16) -> Option<Cause>
     ensures { result ≡ stack_raises state mem.now op ra dd }
 {
-    let sp = state.reg(ra);
-    let ea = state.frame_ea(ra, dd);
-    let missed = frame_missed(mem.len(), op, sp, ea, doublewords(op, dd));
-    missed_raises(missed, stores(op))
+    let missed = frame_served(mem.len(), op, state.frame(op, ra, dd)).err()?;
+    Some(cause_of(missed.fault, missed.address, stores(op)))
 }
 
-fn cache_raises(state: State, mem: &[u8], op: CacheOp, ra: u8, rb: u8) -> Raised
+fn cache_raises(state: State, mem: &[u8], op: CacheOp, ra: u8, rb: u8) -> Option<Cause>
     ensures { result ≡ cache_raises state mem.now op ra rb }
 {
     match op {
-        CacheOp::Dcbf => Raised::Nothing,
-        CacheOp::Dcbi => Raised::Nothing,
-        CacheOp::Dcbt => Raised::Nothing,
+        CacheOp::Dcbf | CacheOp::Dcbi | CacheOp::Dcbt => None,
         CacheOp::Dcbz => {
             let ea = state.indexed_ea(ra, rb);
             access_raises(block_access(mem.len(), ea), ea, true)
@@ -135,63 +70,51 @@ fn cache_raises(state: State, mem: &[u8], op: CacheOp, ra: u8, rb: u8) -> Raised
     }
 }
 
-fn trap_raises(profile: Profile, state: State, word: u32, to: u8, tg: bool) -> Raised
+fn trap_raises(profile: Profile, state: State, word: u32, to: u8, tg: bool) -> Option<Cause>
     ensures { result ≡ trap_raises profile state word to tg }
 {
     if (to == 0) | is_42x(profile) & tg {
-        return Raised::Nothing;
+        return None;
     }
     if bit_at(state.dbcr, Bit(7)) {
-        return Raised::Nothing;
+        return None;
     }
-    Raised::Raises(Cause::Program { word, trap: true })
+    Some(Cause::Program { word, trap: true })
 }
 
-fn execute_raises(profile: Profile, state: State, mem: &[u8], word: u32, i: Instr) -> Raised
+fn execute_raises(profile: Profile, state: State, mem: &[u8], word: u32, i: Instr) -> Option<Cause>
     ensures { result ≡ execute_raises profile state mem.now word i }
 {
     match i {
-        Instr::Arithmetic(_) => Raised::Nothing,
-        Instr::Logical(_) => Raised::Nothing,
-        Instr::Compare(_) => Raised::Nothing,
-        Instr::Rotate(_) => Raised::Nothing,
         Instr::LoadStore(i) => load_store_raises(state, mem, i),
-        Instr::Stack { op, rt: _, ra, dd } => stack_raises(state, mem, op, ra, dd),
-        Instr::Branch(_) => Raised::Nothing,
-        Instr::Trap {
-            to,
-            ra: _,
-            rb: _,
-            tg,
-        } => trap_raises(profile, state, word, to, tg),
-        Instr::System(_) => Raised::Nothing,
-        Instr::Cache {
-            op,
-            hint: _,
-            ra,
-            rb,
-        } => cache_raises(state, mem, op, ra, rb),
+        Instr::Stack { op, ra, dd, .. } => stack_raises(state, mem, op, ra, dd),
+        Instr::Trap { to, tg, .. } => trap_raises(profile, state, word, to, tg),
+        Instr::Cache { op, ra, rb, .. } => cache_raises(state, mem, op, ra, rb),
+        Instr::Arithmetic(_)
+        | Instr::Logical(_)
+        | Instr::Compare(_)
+        | Instr::Rotate(_)
+        | Instr::Branch(_)
+        | Instr::System(_) => None,
     }
 }
 
-fn decoded_raises(profile: Profile, state: State, mem: &[u8], word: u32) -> Raised
+fn decoded_raises(profile: Profile, state: State, mem: &[u8], word: u32) -> Option<Cause>
     ensures { result ≡ decoded_raises profile state mem.now word (decode_on profile word) }
 {
-    let what = read(profile, word);
-    match what {
-        Decoded::Insn(i) => execute_raises(profile, state, mem, word, i),
-        Decoded::Illegal => Raised::Raises(Cause::Program { word, trap: false }),
+    match read(profile, word) {
+        Some(i) => execute_raises(profile, state, mem, word, i),
+        None => Some(Cause::Program { word, trap: false }),
     }
 }
 
 // Of the instruction at IAR.
-pub fn running_raises(profile: Profile, state: State, mem: &[u8]) -> Raised
+#[tactic(auto, unfolding(crate::specs::Fault::raised_of))]
+pub fn running_raises(profile: Profile, state: State, mem: &[u8]) -> Option<Cause>
     ensures { result ≡ raised_of profile state mem.now }
 {
-    let got = fetch(mem, state.iar);
-    match got {
-        Loaded::Value(word) => decoded_raises(profile, state, mem, word),
-        Loaded::Unaligned => Raised::Raises(Cause::InstructionStorage),
-        Loaded::Outside => Raised::Raises(Cause::InstructionStorage),
+    match fetch(mem, state.iar) {
+        Ok(word) => decoded_raises(profile, state, mem, word),
+        Err(_) => Some(Cause::InstructionStorage),
     }
 }

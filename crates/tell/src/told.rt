@@ -1,13 +1,11 @@
 // What a step would do: which of its six lines it ends in, and how.
 ghost use Rattle.std.specs.Prelude.{◌≡◌};
-ghost use Rattle.tell.specs.Told.{running_told, told_of, vector_code, cause_code, code_of};
+ghost use Rattle.tell.specs.Told.{told_of, vector_code, cause_code, code_of};
 
-use crate::fault::{Raised, running_raises};
-use crate::uses::free;
+use crate::fault::running_raises;
 use insn::profile::Profile;
 use machine::interrupt::{Cause, Vector};
 use machine::state::State;
-use machine::step::Pending;
 use word::bits::{Bit, bit_at};
 
 #[derive(Clone, Copy)]
@@ -20,17 +18,8 @@ pub enum Told {
     Faults(Cause),
 }
 
-// Line 6.
-fn running_tells(raised: Raised) -> Told
-    ensures { result ≡ running_told raised }
-{
-    match raised {
-        Raised::Nothing => Told::Executes,
-        Raised::Raises(c) => Told::Faults(c),
-    }
-}
-
 // The lines in their order: a pending interrupt comes before the wait.
+#[tactic(auto, unfolding(crate::specs::Told::told_of))]
 pub fn tell(profile: Profile, state: State, mem: &[u8], event: u8) -> Told
     ensures { result ≡ told_of profile state mem.now event }
 {
@@ -42,16 +31,19 @@ pub fn tell(profile: Profile, state: State, mem: &[u8], event: u8) -> Told
     }
     let ticked = state.tick(event);
     let pending = ticked.highest(event);
-    if free(pending) & bit_at(ticked.msr, Bit(13)) {
+    if pending.is_none() & bit_at(ticked.msr, Bit(13)) {
         return Told::Waits;
     }
-    match pending {
-        Pending::Take(v) => Told::Takes(v),
-        Pending::Nothing => running_tells(running_raises(profile, ticked, mem)),
+    if let Some(v) = pending {
+        return Told::Takes(v);
+    }
+    match running_raises(profile, ticked, mem) {
+        None => Told::Executes,
+        Some(c) => Told::Faults(c),
     }
 }
 
-// A step takes only the first four.
+// A step takes only these four.
 fn vector_code(v: Vector) -> u32
     ensures { result ≡ vector_code v }
 {
@@ -60,11 +52,7 @@ fn vector_code(v: Vector) -> u32
         Vector::Decrementer => 5,
         Vector::FixedInterval => 6,
         Vector::Watchdog => 7,
-        Vector::MachineCheck => 0,
-        Vector::DataStorage => 0,
-        Vector::InstructionStorage => 0,
-        Vector::Alignment => 0,
-        Vector::Program => 0,
+        _ => 0,
     }
 }
 
@@ -72,29 +60,26 @@ fn cause_code(c: Cause) -> u32
     ensures { result ≡ cause_code c }
 {
     match c {
-        Cause::DataStorage {
-            address: _,
-            store: _,
-        } => 8,
+        Cause::DataStorage { .. } => 8,
         Cause::InstructionStorage => 9,
-        Cause::Alignment {
-            address: _,
-            store: _,
-        } => 10,
-        Cause::Program { word: _, trap } => { if trap { 12 } else { 11 } }
+        Cause::Alignment { .. } => 10,
+        Cause::Program { trap: false, .. } => 11,
+        Cause::Program { trap: true, .. } => 12,
     }
 }
 
 // The number of include/ppe42.h.
-pub fn code(t: Told) -> u32
-    ensures { result ≡ code_of t }
-{
-    match t {
-        Told::Halted => 0,
-        Told::Acts => 3,
-        Told::Takes(v) => vector_code(v),
-        Told::Waits => 2,
-        Told::Executes => 1,
-        Told::Faults(c) => cause_code(c),
+impl From<Told> for u32 {
+    ghost from_gives = { λ told number. number ≡ code_of told };
+
+    fn from(told: Told) -> u32 {
+        match told {
+            Told::Halted => 0,
+            Told::Acts => 3,
+            Told::Takes(v) => vector_code(v),
+            Told::Waits => 2,
+            Told::Executes => 1,
+            Told::Faults(c) => cause_code(c),
+        }
     }
 }

@@ -5,24 +5,21 @@ ghost use Rattle.run.specs.Outcome.{accepted};
 ghost use Rattle.until.specs.Until.{stop_at, until_of, until_outcome, until_memory};
 
 use insn::profile::Profile;
-use machine::refusal::{Refusal, accepts};
+use machine::refusal::Refusal;
 use machine::state::State;
-use run::outcome::{Outcome, run_refusal};
-use run::run::{Stop, event_at, refused};
+use run::outcome::{Outcome, Stop, check_run};
+use run::run::event_at;
 
 // Whether there is a stop at this address: the list has a byte for each word.
+#[tactic(auto, unfolding(crate::specs::Until::stop_at))]
 fn stop_at(stops: &[u8], iar: u32) -> bool
     ensures { result ≡ stop_at stops.now iar }
 {
-    let k = (iar / 4) as usize;
-    if k < stops.len() {
-        stops[k] != 0
-    } else {
-        false
-    }
+    stops.get((iar / 4) as usize).is_some_and(|stop| *stop != 0)
 }
 
 // The run's loop, which a stop ends behind the step that came to it.
+#[tactic(auto, using(crate::proofs::Laws::left_more, crate::proofs::Laws::rest_spent, run::proofs::Laws::run_halted))]
 fn accepted_until(
     profile: Profile,
     start: State,
@@ -35,14 +32,10 @@ fn accepted_until(
 {
     let mut s = start;
     let mut i = 0;
+    let mut stopped = false;
+    // The form of the plain run's loop, which the scope binds (docs/DECISIONS.md, Named forms).
     let stop = loop {
-        if budget <= i {
-            break Stop {
-                halt: s.halt,
-                steps: i,
-            };
-        }
-        if s.halt != 0 {
+        if budget <= i || s.halt != 0 || stopped {
             break Stop {
                 halt: s.halt,
                 steps: i,
@@ -50,21 +43,16 @@ fn accepted_until(
         }
         s = s.step(profile, mem, event_at(events, i));
         i += 1;
-        if stop_at(stops, s.iar) {
-            break Stop {
-                halt: s.halt,
-                steps: i,
-            };
-        }
+        stopped = stop_at(stops, s.iar);
     };
     Outcome {
-        refusal: Refusal::None,
         state: s,
         halt: stop.halt,
         steps: stop.steps,
     }
 }
 
+#[tactic(auto, unfolding(crate::specs::Until::until_outcome, crate::specs::Until::until_memory))]
 pub fn run_until(
     profile: Profile,
     state: State,
@@ -72,13 +60,9 @@ pub fn run_until(
     events: &[u8],
     stops: &[u8],
     budget: u32,
-) -> Outcome
+) -> Result<Outcome, Refusal>
     ensures { (result ≡ until_outcome profile state mem.old events.now stops.now budget) × (mem.new ≡ until_memory profile state mem.old events.now stops.now budget) }
 {
-    let refusal = run_refusal(profile, state, &mem[..], events, budget);
-    if accepts(refusal) {
-        accepted_until(profile, state, mem, events, stops, budget)
-    } else {
-        refused(state, refusal)
-    }
+    check_run(profile, state, &mem[..], events, budget)?;
+    Ok(accepted_until(profile, state, mem, events, stops, budget))
 }

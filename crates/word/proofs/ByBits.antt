@@ -125,7 +125,7 @@ digit_at (suc n) i f h =
     ∙ digit_at n i f l)
     (eq-or-lt_of_le (le_of_suc-le-suc h))
 
-one_digit : (b : Bool) → eqb (digit b) 1 ≡ b
+pub one_digit : (b : Bool) → eqb (digit b) 1 ≡ b
 one_digit true = refl
 one_digit false = refl
 

@@ -2,7 +2,9 @@
 ghost use Rattle.std.specs.Prelude.{◌≡◌, ◌+◌, ◌-◌, ◌^◌, ◌<◌};
 ghost use Rattle.word.specs.Bits.{IsBit, IsPart, bit_of, shift_of, bit_at, bits_at, field_at, digit};
 
-// The number of a bit of a word: 0 is the most significant.
+// The number of a bit of a word: 0 is the most significant. That it is below 32 stands in the clauses (`IsBit`, `IsPart`, and `IsShift` of
+// a shift): a tuple struct has no ghost field, and a `Copy` one with an `impl Model` and its `inverse` proves, but is a bare number in each
+// clause and definition, where `bit_of` and `shift_of` then no longer tell a bit from a shift.
 #[derive(Clone, Copy)]
 pub struct Bit(pub u8);
 
@@ -52,6 +54,7 @@ pub fn bits_at(word: u32, i: Bit, j: Bit) -> u32
 }
 
 // The word that has the value's last bits in its bits i to j.
+#[tactic(auto, using(crate::proofs::Laws::field_fits))]
 pub fn field_at(i: Bit, j: Bit, value: u32) -> u32
     requires { IsPart i j }
     ensures { result ≡ field_at i.0 j.0 value }

@@ -1,5 +1,5 @@
 // CR0 after a compare and after a result: LT, GT, EQ and SO as four bits.
-ghost use Rattle.std.specs.Prelude.{◌≡◌, ◌+◌, ◌%◌, ◌^◌};
+ghost use Rattle.std.specs.Prelude.{◌≡◌};
 ghost use Rattle.word.specs.Compare.{cr0, less_signed, compared_signed, compared_unsigned, recorded};
 
 use crate::bits::digit_of;
@@ -11,17 +11,10 @@ pub fn cr0_of(lt: bool, gt: bool, eq: bool, so: bool) -> u32
     digit_of(lt) * 8 + digit_of(gt) * 4 + digit_of(eq) * 2 + digit_of(so)
 }
 
-// x with 2^31 added: the signed order becomes the unsigned one.
-fn biased(x: u32) -> u32
-    ensures { result ≡ (x + 2 ^ 31) % 2 ^ 32 }
-{
-    ((x as u64 + 0x8000_0000) % 0x1_0000_0000) as u32
-}
-
 pub fn less_signed(a: u32, b: u32) -> bool
     ensures { result ≡ less_signed a b }
 {
-    biased(a) < biased(b)
+    a.cast_signed() < b.cast_signed()
 }
 
 // CR0 after cmpw and cmpwi.

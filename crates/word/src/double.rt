@@ -1,4 +1,5 @@
-// Doublewords of 64 bits: ROTL, MASK, insertion under a mask, and CR0 after a result.
+// Doublewords of 64 bits: ROTL, MASK, insertion under a mask, and CR0 after a result. The functions of a word stand beside these: one for
+// both would need the operators as bounds with their laws, and its clauses (`under`, `under64` ..) are definitions of their own.
 ghost use Rattle.std.specs.Prelude.{◌≡◌, ◌-◌, ◌%◌, ◌<◌};
 ghost use Rattle.word.specs.Double.{rotl64, mask64, under64, recorded64};
 
@@ -6,6 +7,7 @@ use crate::bits::{Bit, Shift, shift_of};
 use crate::compare::cr0_of;
 
 // Rotated left by the six low bits of n.
+#[tactic(auto, using(crate::proofs::Doubles::rotated))]
 pub fn rotate_double(x: u64, n: u8) -> u64
     ensures { result ≡ rotl64 x (n % 64) }
 {
@@ -27,6 +29,7 @@ fn double_shift_of(b: u8) -> Shift
 }
 
 // Ones from bit b to the last.
+#[tactic(auto, using(crate::proofs::Doubles::from_is))]
 fn ones_from(b: u8) -> u64
     requires { b < 64 }
     ensures { result ≡ mask64 b 63 }
@@ -35,6 +38,7 @@ fn ones_from(b: u8) -> u64
 }
 
 // Ones from the first bit to bit b.
+#[tactic(auto, using(crate::proofs::Doubles::to_is))]
 fn ones_to(b: u8) -> u64
     requires { b < 64 }
     ensures { result ≡ mask64 0 b }
@@ -43,6 +47,7 @@ fn ones_to(b: u8) -> u64
 }
 
 // MASK(MB, ME), the bits named by six-bit fields.
+#[tactic(auto, using(crate::proofs::Doubles::straight64, crate::proofs::Doubles::round64))]
 pub fn mask_double(mb: u8, me: u8) -> u64
     ensures { result ≡ mask64 (mb % 64) (me % 64) }
 {

@@ -21,7 +21,7 @@ fn low_half(a: u32) -> u16
 pub fn low_signed(a: u32, b: u32) -> u32
     ensures { result ≡ mullhw a b }
 {
-    ((extend_half(low_half(a)) as u64 * extend_half(low_half(b)) as u64) % 0x1_0000_0000) as u32
+    extend_half(low_half(a)).wrapping_mul(extend_half(low_half(b)))
 }
 
 pub fn low_unsigned(a: u32, b: u32) -> u32
@@ -34,14 +34,14 @@ pub fn low_unsigned(a: u32, b: u32) -> u32
 pub fn low_word(a: u32, b: u32) -> u32
     ensures { result ≡ low_word a b }
 {
-    ((a as u64 * b as u64) % 0x1_0000_0000) as u32
+    a.wrapping_mul(b)
 }
 
 // The number that a word stands for, without its sign.
 fn magnitude(x: u32) -> u32
     ensures { result ≡ nat_abs (signed x) }
 {
-    if x < 0x8000_0000 { x } else { !x + 1 }
+    x.cast_signed().unsigned_abs()
 }
 
 pub fn multiply(a: u32, b: u32) -> Product

@@ -14,6 +14,7 @@ pub fn rotate_left(x: u32, n: Shift) -> u32
 }
 
 // Ones from bit i to bit j, none where j comes first: those to bit j but for those before bit i.
+#[tactic(auto, using(crate::proofs::Masks::made_is))]
 fn ones(i: Bit, j: Bit) -> u32
     requires { IsBit i × IsBit j }
     ensures { result ≡ cond (leb i.0 j.0) (mask i.0 j.0) 0 }
@@ -24,6 +25,7 @@ fn ones(i: Bit, j: Bit) -> u32
 }
 
 // MASK(MB, ME): ones from bit MB to bit ME, going round past bit 31 when MB is larger.
+#[tactic(auto, using(crate::proofs::Masks::round_is))]
 pub fn mask_of(mb: Bit, me: Bit) -> u32
     requires { IsBit mb × IsBit me }
     ensures { result ≡ mask mb.0 me.0 }
@@ -42,6 +44,7 @@ pub fn insert(m: u32, x: u32, y: u32) -> u32
 }
 
 // The word with a value in its bits i to j, and the rest as it was.
+#[tactic(auto, unfolding(crate::specs::Rotate::put_at))]
 pub fn put_at(word: u32, i: Bit, j: Bit, value: u32) -> u32
     requires { IsPart i j }
     ensures { result ≡ put_at word i.0 j.0 value }

@@ -5,21 +5,13 @@ ghost use Rattle.word.specs.Sign.{exts};
 pub fn extend_byte(b: u8) -> u32
     ensures { result ≡ exts 8 b }
 {
-    if b < 0x80 {
-        b as u32
-    } else {
-        b as u32 + 0xFFFF_FF00
-    }
+    i32::from(b.cast_signed()).cast_unsigned()
 }
 
 pub fn extend_half(h: u16) -> u32
     ensures { result ≡ exts 16 h }
 {
-    if h < 0x8000 {
-        h as u32
-    } else {
-        h as u32 + 0xFFFF_0000
-    }
+    i32::from(h.cast_signed()).cast_unsigned()
 }
 
 // The displacement of b, LI and two zero bits.

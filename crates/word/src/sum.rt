@@ -26,5 +26,5 @@ pub fn add(a: u32, b: u32, carry: bool) -> Sum
 pub fn plus(a: u32, b: u32) -> u32
     ensures { result ≡ (a + b) % 2 ^ 32 }
 {
-    ((a as u64 + b as u64) % 0x1_0000_0000) as u32
+    a.wrapping_add(b)
 }

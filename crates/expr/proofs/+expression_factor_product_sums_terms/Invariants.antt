@@ -13,7 +13,7 @@ abbrev pub decreases-product : goal.decreases-product
 decreases-product l = 3 * (length l.text.now - l.at) + 1
 
 abbrev pub decreases-sums : goal.decreases-sums
-decreases-sums l = 3 * (length l.text.now - l.at)
+decreases-sums l = 3 * (length l.text.now - l.left.end)
 
 abbrev pub decreases-terms : goal.decreases-terms
-decreases-terms l = 3 * (length l.text.now - l.at)
+decreases-terms l = 3 * (length l.text.now - l.left.end)

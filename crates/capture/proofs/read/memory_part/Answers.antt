@@ -1,18 +1,9 @@
 -- `capture::read::memory_part` meets its contract: what is accepted is long enough. Assumes nothing.
-use Rattle.capture.specs.Read.{part_of}
-use Rattle.capture.proofs.Checks.{read_accepts}
+use Rattle.std.specs.Prelude.{is_ok}
+use Rattle.capture.proofs.Checks.{read_accepts, read_ok}
 use native.Mathlib.Omega.{arith}
-use mathlib.Core.Path.{sym, ◌∙◌}
+use mathlib.Core.Path.{ap, sym, ◌∙◌}
 use Rattle.capture.proofs.read.memory_part.Goals as goal
 
 pub overflow_sub-end : goal.overflow_sub-end
-unfolding part_of
-overflow_sub-end c = omega (arith, read_accepts c.args.profile c.args.file.now (rw (← c.read_refusal.ensures) (sym c.accepts.ensures ∙ c.if-accepts.true)))
-
-pub returns-then-accepts : goal.returns-then-accepts
-unfolding part_of
-returns-then-accepts c = rw (← c.read_refusal.ensures, sym c.accepts.ensures ∙ c.if-accepts.true)
-
-pub returns-else-accepts : goal.returns-else-accepts
-unfolding part_of
-returns-else-accepts c = rw (← c.read_refusal.ensures, sym c.accepts.ensures ∙ c.if-accepts.false)
+overflow_sub-end c = omega (arith, read_accepts c.args.profile c.args.file.now (sym (read_ok _ _) ∙ ap is_ok (sym c.state_of.ensures) ∙ sym c.is_ok.ensures.value ∙ c.if-is_ok.true))

@@ -1,20 +1,19 @@
--- `capture::words::words_at` meets its contract: the words read so far, and those that are left. Assumes nothing.
-use mathlib.Core.Path.{sym, ◌∙◌}
-use lib.ListN.{length-set}
+-- `capture::words::words_at` meets its contract: each word is what the closure reads. Assumes nothing.
+use Prim.Native.Nat.{◌+◌, ◌*◌, ◌<◌}
+use mathlib.Core.Path.{◌≡◌, sym, ◌∙◌}
+use lib.ListN.{get_or}
 use borrow.Author.Rules.{rules}
-use Rattle.capture.proofs.Laws.{words_more, words_all}
+use Rattle.std.proofs.Common.{tests}
+use Rattle.std.proofs.lemmas.List.{same_lists}
+use Rattle.word.specs.declared.width.Width.{Width}
+use Rattle.memory.specs.Load.{value_at}
+use Rattle.capture.proofs.Codec.{words_length}
+use Rattle.capture.proofs.Laws.{words_place}
 use Rattle.capture.proofs.words.words_at.Goals as goal
 
-pub loop-k-preserved : goal.loop-k-preserved
-loop-k-preserved c = (
-  search rules,
-  (
-    simp length-set c.loop-k.invariant.1.0,
-    c.loop-k.invariant.1.1
-        ∙ rw c.word_at.ensures
-        (words_more 36 c.args.at c.loop-k.k c.args.file.now c.loop-k.words (search rules) (search rules)),
-  ),
-)
-
 pub returns : goal.returns
-returns c = sym (c.loop-k.invariant.1.1 ∙ words_all 36 c.loop-k.k _ _ c.loop-k.words (search rules) (search rules))
+returns c = same_lists _ _ (c.from_fn.ensures.items.long ∙ sym (words_length 36 c.args.at c.args.file.now)) (λ k d h.
+    let l : k < 36 = rw c.from_fn.ensures.items.long at h in
+    let q = c.from_fn.ensures.items.at k d l in
+    let e : get_or c.from_fn.result k d ≡ value_at Width.Word c.args.file.now (c.args.at + 4 * k) = search (rules, tests, q) in
+    e ∙ sym (words_place 36 c.args.at k c.args.file.now d l))

@@ -5,8 +5,8 @@ use Rattle.engine.specs.Engine.{Good, Sized}
 use Rattle.engine.proofs.Runs.{Going}
 use Rattle.engine.proofs.kept.kept_stretch.Given as goal
 
-abbrev pub invariant-loop-upto : goal.invariant-loop-upto
-invariant-loop-upto l = (l.upto ≤ l.budget) × ((length l.mem ≡ length l.initial.mem) × (Going l.profile l.budget l.events l.initial.s l.initial.mem l.i l.s l.mem × (Sized l.kept × Good l.profile l.tags l.kept l.mem)))
+abbrev pub invariant-loop-i : goal.invariant-loop-i
+invariant-loop-i l = (l.upto ≤ l.budget) × ((length l.mem ≡ length l.initial.mem) × (Going l.profile l.budget l.events l.initial.s l.initial.mem l.i l.s l.mem × (Sized l.kept × Good l.profile l.tags l.kept l.mem)))
 
-abbrev pub decreases-loop-upto : goal.decreases-loop-upto
-decreases-loop-upto l = l.budget - l.i
+abbrev pub decreases-loop-i : goal.decreases-loop-i
+decreases-loop-i l = l.budget - l.i

@@ -1,10 +1,7 @@
-use Prim.Native.Nat.{ℕ, ◌-◌, ◌≤◌, ◌<◌}
+use Prim.Native.Nat.{ℕ, ◌<◌}
 use mathlib.Core.Path.{◌≡◌}
 use lib.ListN.{length, get_or, set}
 use Rattle.machine.proofs.state.replaced.Given as goal
 
 abbrev pub invariant-loop-k : goal.invariant-loop-k
-invariant-loop-k l = (l.k ≤ 16) × ((length l.all ≡ 16) × ((j : ℕ) → j < l.k → get_or l.all j 0 ≡ get_or (set l.gpr l.at l.v) j 0))
-
-abbrev pub decreases-loop-k : goal.decreases-loop-k
-decreases-loop-k l = 16 - l.k
+invariant-loop-k l = (length l.all ≡ 16) × ((j : ℕ) → j < l.k → get_or l.all j 0 ≡ get_or (set l.gpr l.at l.v) j 0)

@@ -1,4 +1,4 @@
--- `stack_marked` meets its contract, by what its callees ensure. Assumes nothing.
+-- `marked::step::stack_marked` meets its contract, by what its callees ensure. Assumes nothing.
 use Rattle.machine.proofs.Frames.{stack_past}
 use Rattle.marked.proofs.step.stack_marked.Goals as goal
 

@@ -1,46 +1,44 @@
--- `srecord::line::line_at` meets its contract: the parts stand where they are looked for. Assumes nothing.
+-- `srecord::line::line_at` meets its contract: each part that is not found, and the record. Assumes nothing.
 use native.Mathlib.Omega.{arith}
-use mathlib.Core.Path.{ap, sym, ◌∙◌}
-use borrow.Author.Tests.{not-true, not-false}
-use Rattle.srecord.specs.Record.{width_of}
-use Rattle.srecord.specs.Found.{found_of, address_at, data_at, size_at, next_at}
-use Rattle.srecord.proofs.Formed.{formed_stands}
+use Prim.Native.Nat.{◌+◌, ◌*◌, ◌≤◌}
+use mathlib.Core.Path.{sym, ◌∙◌}
+use lib.ListN.{length}
+use borrow.Author.Rules.{rules}
+use Rattle.srecord.proofs.Formed.{formed_short, formed_headless, formed_endless, ends_outside, head_found, head_none}
+use Rattle.srecord.proofs.Judge.{found_none, address_none, sum_none, sum_small, end_none, check_off, found_whole}
 use Rattle.srecord.proofs.line.line_at.Goals as goal
 
-pub returns-then-not-formed : goal.returns-then-not-formed
-unfolding found_of
-returns-then-not-formed c = rw (sym c.formed.ensures ∙ not-true _ c.if-not-formed.true-raw)
+pub returns-then-left-lt4 : goal.returns-then-left-lt4
+returns-then-left-lt4 c = sym (found_none _ _ (formed_short c.args.at c.args.file.now (search rules)))
 
-pub bounds-file-at : goal.bounds-file-at
-unfolding found_of
-bounds-file-at c = omega (arith, (formed_stands _ _ (sym c.formed.ensures ∙ not-false _ c.if-not-formed.false-raw)).inside)
+pub returns-in_err-head : goal.returns-in_err-head
+returns-in_err-head c = rw (found_none _ _ (formed_headless _ _ (head_none _ _ (sym c.head_at.ensures ∙ c.in_err-head.was)))) (search rules)
 
-pub pair_at-n-requires : goal.pair_at-n-requires
-pair_at-n-requires c = omega (arith, (formed_stands _ _ (sym c.formed.ensures ∙ not-false _ c.if-not-formed.false-raw)).inside)
+pub returns-then-left-head : goal.returns-then-left-head
+returns-then-left-head c = let d = head_found _ _ _ (sym c.head_at.ensures ∙ c.in_ok-head.was) in
+    let l : length c.args.file.now ≤ c.args.at + 4 + 2 * c.in_ok-head.head.count = omega arith in
+    sym (found_none _ _ (formed_endless _ _ (rw d.count (ends_outside _ _ l))))
 
-pub number_at-requires-clause-le_width : goal.number_at-requires-clause-le_width
-number_at-requires-clause-le_width c = let s = formed_stands _ _ (sym c.formed.ensures ∙ not-false _ c.if-not-formed.false-raw) in
-    let w = c.width_of-width.ensures.0 ∙ ap width_of c.kind_of-kind.ensures.0 in
-    (omega (arith, s.room.low), omega (arith, s.room.high))
+pub returns-in_err-address : goal.returns-in_err-address
+returns-in_err-address c = let d = head_found _ _ _ (sym c.head_at.ensures ∙ c.in_ok-head.was) in
+    rw (address_none _ _ _ d (sym c.number_at.ensures ∙ c.in_err-address.was)) (search rules)
 
-pub number_at-requires-clause-width_in_bounds : goal.number_at-requires-clause-width_in_bounds
-number_at-requires-clause-width_in_bounds c = let s = formed_stands _ _ (sym c.formed.ensures ∙ not-false _ c.if-not-formed.false-raw) in
-    let w = c.width_of-width.ensures.0 ∙ ap width_of c.kind_of-kind.ensures.0 in
-    omega (arith, s.inside, s.room.fits)
+pub returns-in_err-sum : goal.returns-in_err-sum
+returns-in_err-sum c = let d = head_found _ _ _ (sym c.head_at.ensures ∙ c.in_ok-head.was) in
+    rw (sum_none _ _ _ d (sym c.sum_at.ensures ∙ c.in_err-sum.was)) (search rules)
 
-pub overflow_sub-result : goal.overflow_sub-result
-overflow_sub-result c = let s = formed_stands _ _ (sym c.formed.ensures ∙ not-false _ c.if-not-formed.false-raw) in
-    omega (arith, s.room.fits, c.pair_at-n.ensures.0)
+pub returns-in_err-next : goal.returns-in_err-next
+returns-in_err-next c = let d = head_found _ _ _ (sym c.head_at.ensures ∙ c.in_ok-head.was) in
+    rw (end_none _ _ _ d (sym c.line_end.ensures ∙ c.in_err-next.was)) (search rules)
 
-pub overflow_sub-result-2 : goal.overflow_sub-result-2
-overflow_sub-result-2 c = let s = formed_stands _ _ (sym c.formed.ensures ∙ not-false _ c.if-not-formed.false-raw) in
-    let w = c.width_of-width.ensures.0 ∙ ap width_of c.kind_of-kind.ensures.0 in
-    omega (arith, s.room.fits, c.pair_at-n.ensures.0)
+pub overflow_add-head-2 : goal.overflow_add-head-2
+overflow_add-head-2 c = let d = head_found _ _ _ (sym c.head_at.ensures ∙ c.in_ok-head.was) in
+    omega (arith, d.count, d.small, sum_small _ _ _ d _ (sym c.sum_at.ensures ∙ c.in_ok-sum.was))
 
-pub line_end-requires : goal.line_end-requires
-line_end-requires c = let s = formed_stands _ _ (sym c.formed.ensures ∙ not-false _ c.if-not-formed.false-raw) in
-    omega (arith, s.inside, c.pair_at-n.ensures.0)
+pub returns-then-head-sum-ne255 : goal.returns-then-head-sum-ne255
+returns-then-head-sum-ne255 c = let d = head_found _ _ _ (sym c.head_at.ensures ∙ c.in_ok-head.was) in
+    sym (check_off _ _ _ d _ _ (sym c.sum_at.ensures ∙ c.in_ok-sum.was) (sym c.line_end.ensures ∙ c.in_ok-next.was) c.if-head-sum-ne255.true)
 
 pub returns : goal.returns
-unfolding found_of address_at data_at size_at next_at
-returns c = rw (sym c.formed.ensures ∙ not-false _ c.if-not-formed.false-raw, c.line_end.ensures, c.number_at.ensures.0, c.width_of-width.ensures.0, c.pair_at-n.ensures.0, c.kind_of-kind.ensures.0)
+returns c = let d = head_found _ _ _ (sym c.head_at.ensures ∙ c.in_ok-head.was) in
+    sym (found_whole _ _ _ d _ _ (sym c.sum_at.ensures ∙ c.in_ok-sum.was) (sym c.line_end.ensures ∙ c.in_ok-next.was) _ (sym c.number_at.ensures ∙ c.in_ok-address.was) c.if-head-sum-ne255.false)

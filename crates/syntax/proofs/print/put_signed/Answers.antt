@@ -7,4 +7,4 @@ pub returns-then-n-h : goal.returns-then-n-h
 returns-then-n-h c = put_plus _ _ _ _ _ _ _ (search rules) c.put_decimal.ensures
 
 pub returns : goal.returns
-returns c = put_minus _ _ _ _ _ _ _ _ _ _ (search rules) c.less.ensures c.put_byte-next.ensures c.put_decimal-2.ensures
+returns c = put_minus _ _ _ _ _ _ _ _ _ _ (search rules) c.saturating_sub.ensures c.put_byte-next.ensures c.put_decimal-2.ensures

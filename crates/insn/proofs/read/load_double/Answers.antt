@@ -1,9 +1,0 @@
--- `insn::read::load_double` meets its contract: the form names every bit. Assumes nothing.
-use native.Mathlib.Omega.{arith}
-use Rattle.insn.specs.Read.{load_double_at}
-use Rattle.insn.proofs.Laws.{whole}
-use Rattle.insn.proofs.Parts.{d_whole}
-use Rattle.insn.proofs.read.load_double.Goals as goal
-
-pub returns : goal.returns
-returns c = whole (load_double_at c.args.update) c.fields_of-f.ensures c.settle_whole.ensures (d_whole c.args.word (omega arith) c.requires)

@@ -1,8 +1,0 @@
--- `memory::store::put_word` meets its contract. Assumes nothing.
-use native.Mathlib.Numerals.{towards_suc}
-use Rattle.memory.specs.Store.{bytes_of}
-use Rattle.memory.proofs.store.put_word.Goals as goal
-
-pub returns : goal.returns
-unfolding bytes_of
-returns c = simp towards_suc
