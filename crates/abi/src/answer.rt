@@ -1,5 +1,5 @@
 // What all C functions share: answers as one number, a state as 144 lent bytes.
-ghost use Rattle.std.specs.Prelude.{◌≡◌, ◌<◌, ◌^◌};
+ghost use Rattle.std.specs.Prelude.{◌≡◌, ◌<◌, ◌^◌, IfOk};
 ghost use Rattle.abi.specs.Answer.{refused_of, answer_of, lent_of};
 
 use machine::refusal::Refusal;
@@ -16,7 +16,8 @@ pub fn refused(refusal: Refusal, count: u32) -> u64
 
 // A count, or a refusal.
 pub fn answer(count: Result<u64, Refusal>) -> u64
-    ensures { result ≡ answer_of count }
+    ensures value { result ≡ answer_of count }
+    ensures small { IfOk count (λ n. n < 2 ^ 32) → result < 2 ^ 63 }
 {
     count.unwrap_or_else(|refusal| refused(refusal, 0))
 }

@@ -1,5 +1,5 @@
 // S-records, read and written.
-ghost use Rattle.std.specs.Prelude.{◌≡◌};
+ghost use Rattle.std.specs.Prelude.{◌≡◌, ◌<◌, ◌^◌, IfOk};
 ghost use Rattle.abi.specs.Records.{rejected_of};
 ghost use Rattle.srecord.specs.Write.{written_of, out_of};
 
@@ -18,8 +18,10 @@ pub fn rejected(read: Result<(), Rejected>) -> u64
 }
 
 // Memory written as S-records into the first bytes of the output, which are counted.
+#[tactic(auto, using(crate::proofs::Laws::srec_small))]
 pub fn write(memory: &[u8], out: &mut [u8]) -> Result<u64, Refusal>
-    ensures { (result ≡ written_of memory.now out.old) × (out.new ≡ out_of memory.now out.old) }
+    ensures value { (result ≡ written_of memory.now out.old) × (out.new ≡ out_of memory.now out.old) }
+    ensures small { IfOk result (λ n. n < 2 ^ 32) }
 {
     let bytes = srecord::write::write(memory, out)?;
     Ok(bytes as u64)

@@ -1,5 +1,5 @@
 // Runs by the engine that keeps decoded words, over a state of lent bytes.
-ghost use Rattle.std.specs.Prelude.{◌≡◌};
+ghost use Rattle.std.specs.Prelude.{◌≡◌, ◌<◌, ◌^◌, IfOk};
 ghost use Rattle.abi_run.specs.Runs.{run_count, run_state, run_lent, reach_count};
 
 use abi::answer::lent_state;
@@ -16,7 +16,8 @@ pub fn run_predecoded(
     events: &[u8],
     budget: u32,
 ) -> Result<u64, Refusal>
-    ensures { (result ≡ run_count profile state.old memory.old events.now budget) × ((state.new ≡ run_state profile state.old memory.old events.now budget) × (memory.new ≡ run_lent profile state.old memory.old events.now budget)) }
+    ensures value { (result ≡ run_count profile state.old memory.old events.now budget) × ((state.new ≡ run_state profile state.old memory.old events.now budget) × (memory.new ≡ run_lent profile state.old memory.old events.now budget)) }
+    ensures small { IfOk result (λ n. n < 2 ^ 32) }
 {
     let start = lent_state(state)?;
     let outcome = predecoded::runs::run_predecoded(profile, start, memory, events, budget)?;

@@ -1,5 +1,5 @@
 // Runs and the single step, over a state of lent bytes.
-ghost use Rattle.std.specs.Prelude.{◌≡◌, ◌+◌, ◌^◌};
+ghost use Rattle.std.specs.Prelude.{◌≡◌, ◌+◌, ◌^◌, ◌<◌, IfOk};
 ghost use Rattle.memory.specs.Access.{pick};
 ghost use Rattle.abi_run.specs.Runs.{run_count, run_state, run_lent, reach_count, inside_count, inside_state, inside_lent, step_count, step_state, step_lent};
 
@@ -30,7 +30,8 @@ pub fn run(
     events: &[u8],
     budget: u32,
 ) -> Result<u64, Refusal>
-    ensures { (result ≡ run_count profile state.old memory.old events.now budget) × ((state.new ≡ run_state profile state.old memory.old events.now budget) × (memory.new ≡ run_lent profile state.old memory.old events.now budget)) }
+    ensures value { (result ≡ run_count profile state.old memory.old events.now budget) × ((state.new ≡ run_state profile state.old memory.old events.now budget) × (memory.new ≡ run_lent profile state.old memory.old events.now budget)) }
+    ensures small { IfOk result (λ n. n < 2 ^ 32) }
 {
     let start = lent_state(state)?;
     let outcome = run::run::run(profile, start, memory, events, budget)?;
@@ -80,7 +81,8 @@ pub fn step(
     memory: &mut [u8],
     event: u8,
 ) -> Result<u64, Refusal>
-    ensures { (result ≡ step_count profile state.old memory.old event) × ((state.new ≡ step_state profile state.old memory.old event) × (memory.new ≡ step_lent profile state.old memory.old event)) }
+    ensures value { (result ≡ step_count profile state.old memory.old event) × ((state.new ≡ step_state profile state.old memory.old event) × (memory.new ≡ step_lent profile state.old memory.old event)) }
+    ensures small { IfOk result (λ n. n < 2 ^ 32) }
 {
     let start = lent_state(state)?;
     let outcome = run::run::step(profile, start, memory, event)?;

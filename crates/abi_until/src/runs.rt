@@ -1,5 +1,5 @@
 // The run that ends at a stop, over a state of lent bytes.
-ghost use Rattle.std.specs.Prelude.{◌≡◌};
+ghost use Rattle.std.specs.Prelude.{◌≡◌, ◌<◌, ◌^◌, IfOk};
 ghost use Rattle.abi_until.specs.Runs.{until_count, until_state, until_lent};
 
 use abi::answer::lent_state;
@@ -16,7 +16,8 @@ pub fn run_until(
     stops: &[u8],
     budget: u32,
 ) -> Result<u64, Refusal>
-    ensures { (result ≡ until_count profile state.old memory.old events.now stops.now budget) × ((state.new ≡ until_state profile state.old memory.old events.now stops.now budget) × (memory.new ≡ until_lent profile state.old memory.old events.now stops.now budget)) }
+    ensures value { (result ≡ until_count profile state.old memory.old events.now stops.now budget) × ((state.new ≡ until_state profile state.old memory.old events.now stops.now budget) × (memory.new ≡ until_lent profile state.old memory.old events.now stops.now budget)) }
+    ensures small { IfOk result (λ n. n < 2 ^ 32) }
 {
     let start = lent_state(state)?;
     let outcome = until::until::run_until(profile, start, memory, events, stops, budget)?;

@@ -6,11 +6,10 @@ ghost use Rattle.asm.specs.Answer.{Answer};
 ghost use Rattle.asm.specs.Inside.{refused_by, after_of, checked_of, held_of, encoded_with, settled_of, Placed};
 ghost use Rattle.asm.specs.declared.assemble.Refused.{Refused};
 
-use crate::fill::{Codes, fill};
+use crate::fill::{Codes, codes_of, fill};
 use expr::{Off, Stuck};
 use insn::profile::Profile;
 use syntax::field::{Field, Misfit};
-use syntax::five::Five;
 use syntax::line::Operands;
 use syntax::table::{Found, find};
 
@@ -60,18 +59,11 @@ fn check_all(o: Operands) -> Result<(), Misfit>
 }
 
 // All five are looked at before the first is taken: one that does not fit counts only if no value is off.
-#[tactic(auto, using(crate::proofs::Checked::all_held))]
 fn codes(o: Operands) -> Result<Codes, Misfit>
     ensures { result ≡ held_of (checked_of o) o }
 {
     check_all(o)?;
-    Ok(Five {
-        a: o.a?,
-        b: o.b?,
-        c: o.c?,
-        d: o.d?,
-        e: o.e?,
-    })
+    Ok(codes_of(o))
 }
 
 // The instruction of a row with the line's operands, written.

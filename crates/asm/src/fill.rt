@@ -1,13 +1,27 @@
 // An instruction with its operands' fields in place of what it had there.
 ghost use Rattle.std.specs.Prelude.{◌≡◌};
-ghost use Rattle.asm.specs.Inside.{eight_of, sixteen_of, filled, filled_arithmetic, filled_logical, filled_compare, filled_rotate, filled_load_store, filled_branch, filled_system};
+ghost use Rattle.asm.specs.Inside.{codes_in, eight_of, sixteen_of, filled, filled_arithmetic, filled_logical, filled_compare, filled_rotate, filled_load_store, filled_branch, filled_system};
 
 use insn::instr::*;
 use syntax::five::Five;
+use syntax::line::Operands;
 
 // The contents of the fields of a line's operands: a is of the last, b of the one before it. A Queue is the other way about;
 // no struct of their own, which each of the uses below would have to take off.
 pub type Codes = Five<u32>;
+
+// What the fields of a line's operands hold, and 0 for one that does not fit.
+pub fn codes_of(o: Operands) -> Codes
+    ensures { result ≡ codes_in o }
+{
+    Five {
+        a: o.a.unwrap_or(0),
+        b: o.b.unwrap_or(0),
+        c: o.c.unwrap_or(0),
+        d: o.d.unwrap_or(0),
+        e: o.e.unwrap_or(0),
+    }
+}
 
 // What is over is cut off, as `filled` says; it cannot come.
 fn eight(n: u32) -> u8

@@ -1,13 +1,39 @@
 // The small program: runs a capture from standard input for 1,000 steps and prints one line.
 #![tactic(auto)]
 
-ghost use Rattle.std.specs.Prelude.{◌≤◌, length, IfOk};
+ghost use Rattle.std.specs.Prelude.{◌≡◌, ◌%◌, ◌≤◌, length, IfOk};
+ghost use Rattle.bench.specs.Hex.{hex_digit, hex_of};
 
 use insn::profile::Profile;
 use machine::refusal::Refusal;
 use run::outcome::Outcome;
 use std::io;
-use std::io::Read;
+use std::io::{Read, Write};
+
+// An upper-case hex digit.
+fn hex_digit(n: u32) -> u8
+    ensures { result ≡ hex_digit (n % 16) }
+{
+    let d = (n % 16) as u8;
+    if d < 10 { b'0' + d } else { b'A' + d - 10 }
+}
+
+// A word as eight hex digits. No contract of the library says what {:08X} writes.
+#[tactic(auto, unfolding(crate::specs::Hex::hex_of))]
+fn hex(word: u32) -> [u8; 8]
+    ensures { result ≡ hex_of word }
+{
+    [
+        hex_digit(word / 0x1000_0000),
+        hex_digit(word / 0x100_0000),
+        hex_digit(word / 0x10_0000),
+        hex_digit(word / 0x1_0000),
+        hex_digit(word / 0x1000),
+        hex_digit(word / 0x100),
+        hex_digit(word / 0x10),
+        hex_digit(word),
+    ]
+}
 
 // The capture is played in its own memory part.
 #[tactic(auto, using(crate::proofs::Laws::part_le, crate::proofs::Laws::part_taken))]
@@ -20,7 +46,9 @@ fn played(file: &mut [u8]) -> Result<Outcome, Refusal> {
 fn print_played(rt: &impl Print, played: Result<Outcome, Refusal>) -> io::Result<()> {
     match played {
         Ok(Outcome { state, halt, steps }) => {
-            println!(rt; "steps {steps} halt {halt} iar {:08X}", state.iar)
+            print!(rt; "steps {steps} halt {halt} iar ")?;
+            io::writer(rt).write_all(&hex(state.iar))?;
+            println!(rt; "")
         }
         Err(refusal) => println!(rt; "refused {}", u32::from(refusal)),
     }

@@ -1,7 +1,6 @@
 -- Laws of lists, of the loops that read and write words, and of the stores that make a capture. Assumes nothing.
 use Prim.Native.Nat.{ℕ, zero, suc, ◌+◌, ◌*◌, ◌≤◌, ◌<◌}
 use native.Mathlib.Omega.{arith}
-use native.Mathlib.Nat.{zero-add}
 use native.Mathlib.Numerals.{add-one}
 use mathlib.Core.Path.{◌≡◌, refl}
 use mathlib.Core.List.{List, [], ◌∷◌, ◌++◌}
@@ -72,14 +71,12 @@ module _ (s : State) (m : List ℕ) (g : length s.gpr ≡ 16) where
 
   -- memory, state and trailer stored one after the other
   pub put_capture : (out : List ℕ) → length m + 156 ≤ length out
-      → sets (sets (m ++ drop (length m) out) (length m) (word_bytes (words_of s))) (length m + 144) (word_bytes (trailer_of (length m))) ≡ capture_of s m ++ drop (length m + 156) out
+      → sets (sets (sets out 0 m) (length m) (word_bytes (words_of s))) (length m + 144) (word_bytes (trailer_of (length m))) ≡ capture_of s m ++ drop (length m + 156) out
   unfolding capture_of
   put_capture out h =
       let q : length m + 144 ≡ 0 + length (m ++ word_bytes (words_of s)) = simp length-append (omega (arith, state_bytes s g)) in
       let z : 0 + length (m ++ word_bytes (words_of s) ++ word_bytes (trailer_of (length m))) ≡ length m + 156 = omega (arith, capture_length) in
-      let first : sets out 0 m ≡ m ++ drop (length m) out = simp zero-add at (sets-eq m out 0 (omega arith)) in
       rw (
-        ← first,
         sets_at m (word_bytes (words_of s)) out 0 (length m) (omega arith),
         sets_at (m ++ word_bytes (words_of s)) (word_bytes (trailer_of (length m))) out 0 (length m + 144) q,
         sets-eq (m ++ word_bytes (words_of s) ++ word_bytes (trailer_of (length m))) out 0 (omega arith),

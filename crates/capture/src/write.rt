@@ -1,5 +1,6 @@
 // Writing a capture: the memory, the state and the trailer, one after the other.
 ghost use Rattle.std.specs.Prelude.{◌≡◌, ◌++◌, ◌+◌, ◌≤◌, length, drop};
+ghost use Rattle.std.proofs.lemmas.List.Edits.{sets};
 ghost use Rattle.capture.specs.Write.{capture_of, check_write, written_of, out_of};
 
 use crate::words::{put_state, put_words};
@@ -20,6 +21,16 @@ fn check_write(profile: Profile, state: State, size: usize, room: usize) -> Resu
     }
 }
 
+// Writes bytes from the front on. `copy_from_slice` would have the library ask for memmove from outside.
+fn put_bytes(out: &mut [u8], bytes: &[u8])
+    requires { length bytes.now ≤ length out.old }
+    ensures { out.new ≡ sets out.old 0 bytes.now }
+{
+    for (i, b) in bytes.iter().enumerate() {
+        out[i] = *b;
+    }
+}
+
 // The whole capture, where there is room for it.
 #[tactic(auto, using(crate::proofs::Laws::put_capture))]
 fn put_capture(out: &mut [u8], state: State, memory: &[u8])
@@ -28,7 +39,7 @@ fn put_capture(out: &mut [u8], state: State, memory: &[u8])
     ensures { out.new ≡ capture_of state memory.now ++ drop (length memory.now + 156) out.old }
 {
     let size = memory.len();
-    out[..size].copy_from_slice(memory);
+    put_bytes(out, memory);
     put_state(out, size, state);
     let trailer = [156, size as u32, 1];
     put_words(out, size + 144, &trailer);

@@ -27,6 +27,23 @@ use Rattle.machine.specs.declared.state.Reg.{Reg}
 use Rattle.machine.specs.declared.interrupt.Cause.{Cause}
 use Rattle.machine.specs.declared.stack.Missed.{Missed}
 
+-- one access more: it is served and goes on, or ends in its interrupt
+module _ (p : Profile) (op : StackOp) (ra sp ea : ℕ) (x : Part) (xs : List Part) (s : State) (m : List ℕ) where
+  pub served : access_of (length m) (address_of x) (size_of x) ≡ Ok tt
+      → framed_of p op ra sp ea (x ∷ xs) s m ≡ framed_of p op ra sp ea xs (state_after op ra x s m) (memory_after op ra x s m)
+  unfolding framed_of
+  served e = rw (e)
+
+  pub unaligned : access_of (length m) (address_of x) (size_of x) ≡ Err Fault.Unaligned
+      → framed_of p op ra sp ea (x ∷ xs) s m ≡ plain (interrupted_of p s (Cause.Alignment (address_of x) (stores_of op))) m
+  unfolding framed_of
+  unaligned e = rw (e)
+
+  pub outside : access_of (length m) (address_of x) (size_of x) ≡ Err Fault.Outside
+      → framed_of p op ra sp ea (x ∷ xs) s m ≡ record { st = interrupted_of p s (Cause.DataStorage (address_of x) (stores_of op)); mem = m; past = true }
+  unfolding framed_of
+  outside e = rw (e)
+
 -- an access leaves the memory as long as it was
 pub part_length : (op : StackOp) (ra : ℕ) (x : Part) (s : State) (m : List ℕ) → length (memory_after op ra x s m) ≡ length m
 part_length StackOp.Lsku ra x s m = refl
@@ -122,6 +139,31 @@ pairs_first len top n xs = go (ltb 0 n) (ltb 1 n)
     go : (b c : Bool) → parts_served len (pick b (one ∷ pick c (two ∷ xs) xs) xs) ≡ result_and (parts_served len (pick b (one ∷ pick c (two ∷ []) []) [])) (parts_served len xs)
     go true true = ap (λ (r : Result Unit Missed). result_and (at one) r) (last (at two) (parts_served len xs)) ∙ in_turn (at one) (result_and (at two) (Ok (tt {0}))) (parts_served len xs)
     go true false = last (at one) (parts_served len xs)
+    go false c = refl
+
+-- the same with the rest that is asked once the pairs are served: the first of all that is not
+abbrev pub pairs_missed : ℕ → ℕ → ℕ → Result Unit Missed → Result Unit Missed
+pairs_missed len top n rest =
+    let first = (top + (2 ^ 32 - 8)) % 2 ^ 32 in
+    let second = (top + (2 ^ 32 - 16)) % 2 ^ 32 in
+    pick (ltb 0 n) (result_and (served_at (access_of len first 8) first) (pick (ltb 1 n) (result_and (served_at (access_of len second 8) second) rest) rest)) rest
+
+pub pairs_missed_lem : (len top n : ℕ) (xs : List Part) → parts_served len (pairs top n xs) ≡ pairs_missed len top n (parts_served len xs)
+unfolding parts_served
+pairs_missed_lem len top n xs = go (ltb 0 n) (ltb 1 n)
+  where
+    first : Part
+    first = pair 30 ((top + (2 ^ 32 - 8)) % 2 ^ 32)
+
+    second : Part
+    second = pair 28 ((top + (2 ^ 32 - 16)) % 2 ^ 32)
+
+    at : Part → Result Unit Missed → Result Unit Missed
+    at x rest = result_and (served_at (access_of len (address_of x) 8) (address_of x)) rest
+
+    go : (b c : Bool) → parts_served len (pick b (first ∷ pick c (second ∷ xs) xs) xs) ≡ pick b (at first (pick c (at second (parts_served len xs)) (parts_served len xs))) (parts_served len xs)
+    go true true = refl
+    go true false = refl
     go false c = refl
 
 -- a frame reaches past its memory where its first access that is not served fell outside

@@ -22,13 +22,13 @@ loaded_reaches (Ok u) v = refl
 loaded_reaches (Err Fault.Unaligned) v = refl
 loaded_reaches (Err Fault.Outside) v = refl
 
-pub load_reaches : (m : List ℕ) (a : ℕ) (w : Width) → reaches_past (access_of (length m) a (bytes w)) ≡ reaches_past (load_of m a w)
+pub load_reaches_lem : (m : List ℕ) (a : ℕ) (w : Width) → reaches_past (access_of (length m) a (bytes w)) ≡ reaches_past (load_of m a w)
 unfolding load_of
-load_reaches m a w = loaded_reaches (access_of (length m) a (bytes w)) (value_at w m a)
+load_reaches_lem m a w = loaded_reaches (access_of (length m) a (bytes w)) (value_at w m a)
 
-pub double_reaches : (m : List ℕ) (a : ℕ) → reaches_past (access_of (length m) a 8) ≡ reaches_past (load_double_of m a)
+pub double_reaches_lem : (m : List ℕ) (a : ℕ) → reaches_past (access_of (length m) a 8) ≡ reaches_past (load_double_of m a)
 unfolding load_double_of
-double_reaches m a = loaded_reaches (access_of (length m) a 8) (double_at m a)
+double_reaches_lem m a = loaded_reaches (access_of (length m) a 8) (double_at m a)
 
 mark_back : (h : ℕ) (b : Bool) → eqb h 0 ≡ b → h ≤ 1 → pick b 8 9 % 8 ≡ h
 mark_back h true e l = rw (eqb-true h 0 e) refl

@@ -82,11 +82,14 @@ lent_goes p (suc n) i ev good s m h =
     turn p n i ev s m (eqb s.halt 0) refl (lent_of p n (suc i) ev q.st q.mem) rest
     ∙ ap (after i) (sym (lent_next p n i ev s m (Ok (accepted q)) q.mem (one_state p s m (get_or ev i 0) h l) (one_memory p s m (get_or ev i 0) h l)))
 
+events_good_lem : (b : Bool) → unless b Refusal.Events ≡ Ok tt → b ≡ true
+events_good_lem b h = unless_accepts b Refusal.Events (ap is_ok h)
+
 -- for a start that a run accepts, as many lent steps as the budget leave what the run leaves
 pub lent_run : (p : Profile) (s : State) (m : List ℕ) (ev : List ℕ) (budget : ℕ) → check_run p s m ev budget ≡ Ok tt → lent_of p budget 0 ev s m ≡ run_of p budget 0 ev s m
 unfolding check_run check_events
 lent_run p s m ev budget h =
     let start = first_ok (check_start p s (length m)) _ h in
     let events = second_ok (unless (leb budget 1048576) Refusal.Budget) _ (second_ok (check_start p s (length m)) _ h) in
-    let good = and_right (leb (length ev) 1048576) (events_good ev) (unless_accepts (leb (length ev) 1048576 && events_good ev) Refusal.Events (ap is_ok events)) in
+    let good = and_right (leb (length ev) 1048576) (events_good ev) (events_good_lem _ events) in
     sym (lent_goes p budget 0 ev good s m start ∙ rw zero-add)

@@ -1,12 +1,13 @@
--- Laws of the run and of its reach, one step on and at the ends, and of a run that is accepted. Assumes nothing.
+-- Laws of the run and of its reach, one step on and at the ends, of the event list, one byte on, and of a run that is accepted. Assumes nothing.
 use Prim.Native.Nat.{ℕ, zero, suc, ◌+◌, ◌-◌, ◌≤◌, ◌<◌}
 use native.Mathlib.Omega.{arith}
 use native.Mathlib.Numerals.{add-one}
 use mathlib.Core.Bool.{Bool, true, false, ◌||◌}
 use mathlib.Core.Path.{◌≡◌, refl, ap}
 use mathlib.Core.List.{List, [], ◌∷◌}
-use lib.ListN.{length, get_or}
-use borrow.Author.Tests.{eq-eqb, ne_eqb}
+use lib.ListN.{length, get_or, drop, drop_of_length-le}
+use lib.Seq.{drop-cons}
+use borrow.Author.Tests.{eq-eqb, ne_eqb, lt-ltb, le-ltb}
 use Rattle.std.specs.Prelude.{Ok, is_ok}
 use Rattle.memory.specs.Access.{pick}
 use Rattle.insn.specs.declared.profile.Profile.{Profile}
@@ -15,7 +16,7 @@ use Rattle.machine.specs.Register.{check_start}
 use Rattle.machine.specs.Step.{step_of}
 use Rattle.machine.proofs.Refusals.{and_accepts, start_accepts, accepted_halt}
 use Rattle.run.specs.Run.{run_of, past_of}
-use Rattle.run.specs.Outcome.{check_run}
+use Rattle.run.specs.Outcome.{events_good, check_run}
 
 module _ (p : Profile) (ev : List ℕ) (s : State) (m : List ℕ) where
   pub run_more : (b i : ℕ) → i < b → s.halt ≡ 0
@@ -66,6 +67,19 @@ pub run_one : (p : Profile) (e : ℕ) (s : State) (m : List ℕ) → s.halt ≡ 
     → run_of p 1 0 (e ∷ []) s m ≡ record { st = (step_of p s m e).st; mem = (step_of p s m e).mem; steps = 1 }
 unfolding run_of
 run_one p e s m z = rw (eq-eqb s.halt 0 z)
+
+-- one event byte more, a bad one, and the end of the list
+pub good_more : (ev : List ℕ) (i : ℕ) → i < length ev → get_or ev i 0 < 64 → events_good (drop i ev) ≡ events_good (drop (i + 1) ev)
+unfolding events_good
+good_more ev i h l = rw (drop-cons ev i 0 h, lt-ltb (get_or ev i 0) 64 l, add-one)
+
+pub bad_here : (ev : List ℕ) (i : ℕ) → i < length ev → 64 ≤ get_or ev i 0 → events_good (drop i ev) ≡ false
+unfolding events_good
+bad_here ev i h l = rw (drop-cons ev i 0 h, le-ltb (get_or ev i 0) 64 l)
+
+pub good_end : (ev : List ℕ) (i : ℕ) → length ev ≤ i → events_good (drop i ev) ≡ true
+unfolding events_good
+good_end ev i h = rw (drop_of_length-le ev h)
 
 -- an accepted run starts with one of the halt codes
 pub run_halt : (p : Profile) (s : State) (m ev : List ℕ) (budget : ℕ) → check_run p s m ev budget ≡ Ok tt → s.halt ≤ 5

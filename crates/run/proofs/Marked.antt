@@ -2,6 +2,7 @@
 use Prim.Native.Nat.{ℕ, suc, ◌+◌, ◌-◌, ◌≤◌, ◌<◌}
 use native.Mathlib.Omega.{arith}
 use native.Mathlib.Numerals.{add-one}
+use native.Mathlib.Nat.{sub-zero}
 use mathlib.Core.Bool.{Bool, true, false}
 use mathlib.Core.Path.{◌≡◌, refl}
 use mathlib.Core.List.{List}
@@ -24,6 +25,12 @@ rest_of p b i ev s m = pick (leb 8 s.halt) (record { st = unmarked s; mem = m; s
 
 abbrev pub rest_past : (p : Profile) → ℕ → ℕ → List ℕ → State → List ℕ → Bool
 rest_past p b i ev s m = pick (leb 8 s.halt) true (past_of p (b - i) i ev s m)
+
+pub rest_start : (p : Profile) (ev : List ℕ) (s : State) (m : List ℕ) (b : ℕ) → s.halt ≤ 5
+    → (run_of p (inside_of p b 0 ev s m) 0 ev s m ≡ rest_of p b 0 ev s m) × (past_of p b 0 ev s m ≡ rest_past p b 0 ev s m)
+rest_start p ev s m b h =
+    let u = lt-leb 8 s.halt (omega (arith, h)) in
+    (rw (u, sub-zero), rw (u, sub-zero))
 
 module _ (p : Profile) (ev : List ℕ) (s : State) (m : List ℕ) (b i : ℕ) (l : i < b) (z : s.halt ≡ 0) where
   one_less : b - i ≡ suc (b - (i + 1))

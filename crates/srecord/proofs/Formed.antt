@@ -10,7 +10,7 @@ use borrow.Author.Tests.{lt-ltb, le-leb, lt-leb, ltb-true, leb-true, eqb-true, e
 use Rattle.std.specs.Prelude.{Some, None}
 use Rattle.memory.specs.Access.{pick}
 use Rattle.srecord.specs.Hex.{letter_of, digit_of, joined, pair_at, bytes_at, all_bytes, sum_of}
-use Rattle.srecord.specs.Record.{width_of, room_for, ends_at, headed_at, formed_at}
+use Rattle.srecord.specs.Record.{widths, width_of, room_for, ends_at, headed_at, formed_at}
 use Rattle.srecord.specs.Found.{kind_at, head_of}
 use Rattle.srecord.specs.declared.line.Head.{Head}
 use Rattle.word.proofs.Truth.{never, and_true, and_yes}
@@ -52,6 +52,10 @@ width_ge (suc (suc (suc (suc (suc (suc (suc zero))))))) h = (lit≤ tt, lit≤ t
 width_ge (suc (suc (suc (suc (suc (suc (suc (suc zero)))))))) h = (lit≤ tt, lit≤ tt)
 width_ge (suc (suc (suc (suc (suc (suc (suc (suc (suc zero))))))))) h = (lit≤ tt, lit≤ tt)
 width_ge (suc (suc (suc (suc (suc (suc (suc (suc (suc (suc t)))))))))) h = absurd (h refl)
+
+pub width_out : (t : ℕ) → 10 ≤ t → width_of t ≡ 0
+unfolding width_of
+width_out t h = get_or-eq_default widths 0 {n = t} h
 
 pub pair_outside : (p : ℕ) (f : List ℕ) → length f < p + 2 → pair_at f p ≡ 256
 unfolding pair_at joined letter_of digit_of

@@ -11,8 +11,8 @@ use borrow.Author.Tests.{lt-leb, le-leb, leb-true, eq-eqb, ne_eqb, ltb-true, not
 use Rattle.memory.specs.Access.{pick}
 use Rattle.srecord.specs.Hex.{pair_at, bytes_at, all_bytes, number_from}
 use Rattle.srecord.specs.Record.{malformed, holds, is_data, is_end, lines_of, ends_at, formed_at, held_at, record_at, record_of, width_of}
-use Rattle.srecord.specs.Found.{kind_at, address_at, data_at, size_at, next_at, number_in, sum_in, end_of, found_at, found_of}
-use Rattle.std.specs.Prelude.{Some, None, Ok, Err, is_ok}
+use Rattle.srecord.specs.Found.{kind_at, address_at, data_at, size_at, next_at, sum_in, end_of, found_at, found_of}
+use Rattle.std.specs.Prelude.{Some, None, IfSome, Ok, Err, is_ok}
 use Rattle.std.specs.Result.{result_and}
 use Rattle.machine.specs.Refusal.{Checked, unless}
 use Rattle.machine.specs.declared.refusal.Refusal.{Refusal}
@@ -168,14 +168,6 @@ module _ (f : List ℕ) (i : ℕ) where
     bytes_none : all_bytes (bytes_at h.count f (i + 4)) ≡ false → found_of f i ≡ None
     bytes_none e = found_none (formed_garbled i f (rw d.count e))
 
-    pub address_none : number_in (bytes_at h.width f (i + 4)) ≡ None → found_of f i ≡ None
-    address_none e =
-        decide (all_bytes (bytes_at h.count f (i + 4)))
-        (λ b.
-        let z : h.width + (h.count - h.width) ≡ h.count = omega (arith, d.room.fits, d.width, d.count) in
-        never (sym (front_part h.width (h.count - h.width) (i + 4) f (rw z b)) ∙ none_cases (all_bytes (bytes_at h.width f (i + 4))) _ e))
-        bytes_none
-
     pub sum_none : sum_in (bytes_at h.count f (i + 4)) ≡ None → found_of f i ≡ None
     sum_none e = bytes_none (none_cases (all_bytes (bytes_at h.count f (i + 4))) _ e)
 
@@ -199,13 +191,12 @@ module _ (f : List ℕ) (i : ℕ) where
       pub check_off : ((h.count + s) % 256 ≡ 255 → ⊥) → found_of f i ≡ None
       check_off o = found_none (sum_test ∙ ne_eqb _ 255 o)
 
-      pub found_whole : (a : ℕ) → number_in (bytes_at h.width f (i + 4)) ≡ Some a → (h.count + s) % 256 ≡ 255
+      pub found_whole : (a : ℕ) → a ≡ number_from 0 (bytes_at h.width f (i + 4)) → (h.count + s) % 256 ≡ 255
           → found_of f i ≡ Some (record { kind = h.kind; address = a; start = i + 4 + 2 * h.width; size = h.count - 1 - h.width; next = n })
       unfolding found_of address_at data_at size_at next_at end_of
       found_whole a g o =
-          let q = found_cases (all_bytes (bytes_at h.width f (i + 4))) _ a g in
           let x = found_cases (ends_at f (i + 4 + 2 * h.count)) _ n e in
-          rw (sum_test, eq-eqb ((h.count + s) % 256) 255 o, d.count, d.width, d.kind, q.1, x.1)
+          rw (sum_test, eq-eqb ((h.count + s) % 256) 255 o, g, d.count, d.width, d.kind, x.1)
 
 -- by cases on a check, with what it answers
 pub result_cases : {C : Type 0} (c : Checked) → (c ≡ Ok tt → C) → ((r : Refusal) → c ≡ Err r → C) → C
@@ -287,6 +278,10 @@ pub record Going (f : List ℕ) (m : ℕ) (ws : List ℕ) (so : Sofar) (at line 
 pub after_count : (s : Seen) (t a n : ℕ) → (after s t a n).count ≤ s.count + 1
 unfolding after
 after_count s t a n = decide (is_data t) (λ e. rw e (omega arith)) (λ e. rw e (omega arith))
+
+pub after_bounds : (s : Seen) (t a n : ℕ) → IfSome s.kind (λ (k : ℕ). k ≤ 9) → t ≤ 9 → IfSome (after s t a n).kind (λ (k : ℕ). k ≤ 9) × ((after s t a n).count ≤ s.count + 1)
+unfolding after
+after_bounds s t a n h l = (decide (is_data t) (λ e. rw e l) (λ e. rw e h), after_count s t a n)
 
 -- a line that is not refused
 pub verdict_good : (m i k : ℕ) (s : Seen) (f : List ℕ) → i < length f → is_ok (verdict m s k (lines_of (drop i f))) ≡ true

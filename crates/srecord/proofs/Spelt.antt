@@ -125,27 +125,36 @@ summed_step v n k at b f h e =
     rw (x, y) (sum_more v (n - k) (at + 2 * k) b f (omega arith) e)
 
 -- and the number
-abbrev pub numbered : ℕ → List ℕ → Option ℕ
-numbered v bs = pick (all_bytes bs) (Some (number_from v bs)) None
+pub number_more : (v n p : ℕ) (f : List ℕ) → 0 < n → number_from v (bytes_at n f p) ≡ number_from (v * 256 + pair_at f p) (bytes_at (n - 1) f (p + 2))
+unfolding number_from
+number_more v n p f h = rw (bytes_more n p f h)
 
-pub number_more : (v n p b : ℕ) (f : List ℕ) → 0 < n → some_but 256 (pair_at f p) ≡ Some b → numbered v (bytes_at n f p) ≡ numbered (v * 256 + b) (bytes_at (n - 1) f (p + 2))
-unfolding all_bytes number_from
-number_more v n p b f h e = let q = byte_is p b f e in rw (bytes_more n p f h, q.0, lt-ltb b 256 q.1)
-
-pub number_stop : (v n p : ℕ) (f : List ℕ) → 0 < n → some_but 256 (pair_at f p) ≡ None → numbered v (bytes_at n f p) ≡ None
-unfolding all_bytes
-number_stop v n p f h e = rw (bytes_more n p f h, but_none 256 (pair_at f p) e)
-
-pub number_end : (v n p : ℕ) (f : List ℕ) → n ≡ 0 → numbered v (bytes_at n f p) ≡ Some v
-unfolding all_bytes number_from bytes_at
+pub number_end : (v n p : ℕ) (f : List ℕ) → n ≡ 0 → number_from v (bytes_at n f p) ≡ v
+unfolding number_from bytes_at
 number_end v n p f e = rw e
 
-pub numbered_step : (v n k at b : ℕ) (f : List ℕ) → k < n → some_but 256 (pair_at f (at + 2 * k)) ≡ Some b
-    → numbered v (bytes_at (n - k) f (at + 2 * k)) ≡ numbered (v * 256 + b) (bytes_at (n - (k + 1)) f (at + 2 * (k + 1)))
-numbered_step v n k at b f h e =
+pub number_step : (v n k at : ℕ) (f : List ℕ) → k < n
+    → number_from v (bytes_at (n - k) f (at + 2 * k)) ≡ number_from (v * 256 + pair_at f (at + 2 * k)) (bytes_at (n - (k + 1)) f (at + 2 * (k + 1)))
+number_step v n k at f h =
     let x : n - (k + 1) ≡ n - k - 1 = omega arith in
     let y : at + 2 * (k + 1) ≡ at + 2 * k + 2 = omega arith in
-    rw (x, y) (number_more v (n - k) (at + 2 * k) b f (omega arith) e)
+    rw (x, y) (number_more v (n - k) (at + 2 * k) f (omega arith))
+
+-- the most that k bytes make, of which one that is not spelt counts 256
+abbrev pub most : ℕ → ℕ
+most zero = 0
+most (suc k) = most k * 256 + 256
+
+pub most_more : (k v b : ℕ) → v ≤ most k → b ≤ 256 → v * 256 + b ≤ most (suc k)
+most_more k v b h l = omega arith
+
+pub most_le : (k : ℕ) → k ≤ 4 → most k ≤ 4311810304
+most_le zero h = lit≤ tt
+most_le (suc zero) h = lit≤ tt
+most_le (suc (suc zero)) h = lit≤ tt
+most_le (suc (suc (suc zero))) h = lit≤ tt
+most_le (suc (suc (suc (suc zero)))) h = lit≤ tt
+most_le (suc (suc (suc (suc (suc k))))) h = absurd (omega arith)
 
 -- what k bytes can spell is below this
 abbrev pub limit : ℕ → ℕ

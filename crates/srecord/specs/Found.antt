@@ -11,12 +11,9 @@ use Rattle.srecord.specs.declared.line.Record.{Record}
 abbrev pub some_but : ℕ → ℕ → Option ℕ
 some_but none n = pick (eqb n none) None (Some n)
 
--- the sum and the number of bytes that are spelt
+-- the sum of bytes that are spelt
 abbrev pub sum_in : List ℕ → Option ℕ
 sum_in bs = pick (all_bytes bs) (Some (sum_of bs)) None
-
-abbrev pub number_in : List ℕ → Option ℕ
-number_in bs = pick (all_bytes bs) (Some (number_from 0 bs)) None
 
 unfoldable pub line_end : List ℕ → ℕ → ℕ
 line_end f i = pick (eqb (get_or f i 0) 10) (i + 1) (i + 2)

@@ -1,8 +1,8 @@
 // Bytes spelt by hex digits, in a lent file. They are looked up by places of the file, not by parts of it, since the definitions
 // (`pair_at`, `bytes_at`, `record_at`) count places from its start.
 ghost use Rattle.std.specs.Prelude.{◌≡◌, ◌+◌, ◌*◌, ◌≤◌, length};
-ghost use Rattle.srecord.specs.Hex.{letter_of, digit_of, pair_at, bytes_at};
-ghost use Rattle.srecord.specs.Found.{some_but, sum_in, number_in};
+ghost use Rattle.srecord.specs.Hex.{letter_of, digit_of, pair_at, bytes_at, number_from};
+ghost use Rattle.srecord.specs.Found.{some_but, sum_in};
 
 // The value of a letter that is a hex digit, 16 for any other character. With 32 a letter is lower-case, and 159 is 256 less `a`.
 #[tactic(auto, using(crate::proofs::Spelt::letter_yes, crate::proofs::Spelt::letter_no))]
@@ -54,17 +54,25 @@ pub fn sum_at(file: &[u8], at: usize, n: usize) -> Option<usize>
     Some(sum)
 }
 
+// A byte that is spelt, or 256: a number is asked for where the sum has looked at every byte.
+#[tactic(auto, using(crate::proofs::Spelt::but_none, crate::proofs::Spelt::but_some))]
+fn byte_or_256(file: &[u8], at: usize) -> usize
+    requires { at + 2 ≤ length file.now }
+    ensures { (result ≡ pair_at file.now at) × (result ≤ 256) }
+{
+    pair_at(file, at).map_or(256, usize::from)
+}
+
 // The number that 2, 3 or 4 bytes spelt from a place on are.
-#[tactic(auto, using(crate::proofs::Spelt::number_stop, crate::proofs::Spelt::number_end, crate::proofs::Spelt::limit_le))]
-pub fn number_at(file: &[u8], at: usize, width: usize) -> Option<usize>
+#[tactic(auto, using(crate::proofs::Spelt::number_end, crate::proofs::Spelt::most_le))]
+pub fn number_at(file: &[u8], at: usize, width: usize) -> usize
     requires le_width { (2 ≤ width) × (width ≤ 4) }
     requires width_in_bounds { at + 2 * width ≤ length file.now }
-    ensures { result ≡ number_in (bytes_at width file.now at) }
+    ensures { (result ≡ number_from 0 (bytes_at width file.now at)) × (result ≤ 4311810304) }
 {
     let mut number = 0;
     for k in 0..width {
-        let b = pair_at(file, at + 2 * k)?;
-        number = number * 256 + usize::from(b);
+        number = number * 256 + byte_or_256(file, at + 2 * k);
     }
-    Some(number)
+    number
 }

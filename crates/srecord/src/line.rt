@@ -102,7 +102,6 @@ pub fn line_at(file: &[u8], at: usize) -> Option<Record>
         return None;
     }
     let first = at + 4;
-    let address = number_at(file, first, head.width)?;
     let sum = sum_at(file, first, head.count)?;
     let next = line_end(file, first + 2 * head.count)?;
     if (head.count + sum) % 256 != 255 {
@@ -110,7 +109,7 @@ pub fn line_at(file: &[u8], at: usize) -> Option<Record>
     }
     Some(Record {
         kind: head.kind,
-        address,
+        address: number_at(file, first, head.width),
         start: first + 2 * head.width,
         size: head.count - 1 - head.width,
         next,

@@ -1,8 +1,11 @@
 -- The fields of numbers, as the code tells their signs.
-use Prim.Native.Nat.{ℕ, ◌-◌, ◌*◌, ◌%◌, ◌<◌, ◌≤◌}
+use Prim.Native.Nat.{ℕ, ◌-◌, ◌*◌, ◌/◌, ◌%◌, ◌^◌, ◌<◌, ◌≤◌}
 use native.Mathlib.Omega.{arith}
 use mathlib.Core.Path.{◌≡◌, refl, ap}
+use lib.Dec.{eqb, lit≤}
 use lib.IntN.{ℤ, pos, negsuc}
+use mathlib.Core.Bool.{Bool, true, false}
+use Rattle.expr.specs.Grammar.{pick}
 use lib.Signed.{◌≤ℤ◌, ◌<ℤ◌}
 use borrow.Author.Tests.{lt-ltb, le-ltb, eq-eqb, ne_eqb}
 use Rattle.std.specs.Prelude.{Ok, Err, unsigned_abs}
@@ -12,6 +15,8 @@ use Rattle.syntax.specs.Worth.{unfit, below, signed_code, unsigned_code, target_
 use Rattle.expr.specs.declared.Off.{Off}
 use Rattle.syntax.specs.Syntax.{Range, signed, unsigned, target, frame}
 use Rattle.syntax.specs.declared.field.Misfit.{Misfit}
+use Rattle.syntax.specs.declared.slot.Number.{Number}
+use Rattle.syntax.specs.Inside.{range_in}
 
 -- two's complement
 pub signed_up : (h : ℕ) (z : ℤ) → pos 0 ≤ℤ z → below h (unsigned_abs z) ≡ signed_code h (Ok z)
@@ -66,3 +71,48 @@ code_off (signed h) k = refl
 code_off (unsigned m) k = refl
 code_off (target h) k = refl
 code_off (frame h) k = refl
+
+-- a number of more than 32 bits fits no field of a line
+abbrev width : Range → ℕ
+width (signed h) = h
+width (unsigned m) = m
+width (target h) = h
+width (frame h) = h
+
+width_small : (x : Number) → width (range_in x) ≤ 2 ^ 28
+width_small Number.Signed = lit≤ tt
+width_small Number.Unsigned = lit≤ tt
+width_small Number.Five = lit≤ tt
+width_small Number.Six = lit≤ tt
+width_small Number.Two = lit≤ tt
+width_small Number.Ten = lit≤ tt
+width_small Number.One = lit≤ tt
+width_small Number.Frame = lit≤ tt
+width_small Number.Branch = lit≤ tt
+width_small Number.Conditional = lit≤ tt
+
+both_unfit : (b : Bool) → unfit ≡ pick b unfit unfit
+both_unfit true = refl
+both_unfit false = refl
+
+unfit_down : (r : Range) (n : ℕ) → width r ≤ 2 ^ 28 → 2 ^ 31 ≤ n → unfit ≡ code_of r (Ok (negsuc n))
+unfolding signed_code unsigned_code target_code frame_code
+unfit_down (signed h) n w l = rw (le-ltb n h (omega arith)) refl
+unfit_down (unsigned m) n w l = refl
+unfit_down (target h) n w l = rw (le-ltb (n / 4) h (omega arith)) (both_unfit (eqb (n % 4) 3))
+unfit_down (frame h) n w l = rw (le-ltb (n / 8) h (omega arith)) refl
+
+unfit_up : (r : Range) (n : ℕ) → width r ≤ 2 ^ 28 → 2 ^ 31 ≤ n → unfit ≡ code_of r (Ok (pos n))
+unfolding signed_code unsigned_code target_code frame_code
+unfit_up (signed h) n w l = rw (le-ltb n h (omega arith)) refl
+unfit_up (unsigned m) n w l = rw (le-ltb n m (omega arith)) refl
+unfit_up (target h) n w l = rw (le-ltb (n / 4) h (omega arith)) (both_unfit (eqb (n % 4) 0))
+unfit_up (frame h) n w l = rw (le-ltb (n / 8) h (omega arith)) refl
+
+pub code_below : (x : Number) (z : ℤ) → z <ℤ negsuc 0x7FFF_FFFF → unfit ≡ code_of (range_in x) (Ok z)
+code_below x (pos n) l = let z : ⊥ = omega (arith, ints) in absurd z
+code_below x (negsuc n) l = unfit_down (range_in x) n (width_small x) (omega (arith, ints))
+
+pub code_above : (x : Number) (z : ℤ) → pos 0x8000_0000 ≤ℤ z → unfit ≡ code_of (range_in x) (Ok z)
+code_above x (pos n) l = unfit_up (range_in x) n (width_small x) (omega (arith, ints))
+code_above x (negsuc n) l = let z : ⊥ = omega (arith, ints) in absurd z

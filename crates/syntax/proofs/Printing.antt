@@ -6,13 +6,13 @@ use mathlib.Core.List.{List, [], ◌∷◌, ◌++◌}
 use lib.ListN.{length, get_or, drop, set, length-append, drop_of_length-le}
 use lib.Seq.{sets, length-sets, drop-cons}
 use lib.Dec.{eqb, ltb}
-use mathlib.Core.Bool.{Bool, true, false}
+use mathlib.Core.Bool.{Bool, true, false, ◌||◌}
 use Rattle.expr.specs.Grammar.{pick}
 use borrow.Author.Tests.{lt-ltb, le-ltb}
 use Rattle.syntax.specs.Syntax.{signed, unsigned, target, frame, Item, lit, reg, zreg, num}
-use Rattle.syntax.specs.LineOf.{decimal, signed_text}
+use Rattle.syntax.specs.LineOf.{decimal, signed_text, number_text}
 use Rattle.syntax.proofs.Walk.{pattern_cons}
-use Rattle.syntax.specs.Inside.{Queue, item_at, pattern_of, operand_text, queue_after, printed, wide_item, wide}
+use Rattle.syntax.specs.Inside.{Queue, range_of, item_at, pattern_of, operand_text, queue_after, printed, wide_item, wide}
 
 -- w stored from a place on, and where it ends
 abbrev pub Put : List ℕ → ℕ → List ℕ → ℕ → List ℕ → Type 0
@@ -63,6 +63,26 @@ pub put_minus : (unit h n d : ℕ) (l m o : List ℕ) (i g j : ℕ) → h ≤ n 
 unfolding signed_text
 put_minus unit h n d l m o i g j p e q r =
     rw (le-ltb n h p, ← e) (then (45 ∷ []) (decimal 8 (unit * d)) l m o i g j q r)
+
+-- the text of a number by its letter in a row
+pub number_text_lem : (c n : ℕ)
+    → number_text (range_of c) n ≡ pick (eqb c 83) (signed_text 1 0x8000 n) (pick (eqb c 85 || eqb c 78 || eqb c 76 || eqb c 67 || eqb c 80 || eqb c 69) (decimal 8 n) (pick (eqb c 70) (signed_text 8 0x1000 n) (pick (eqb c 74) (signed_text 4 0x80_0000 n) (signed_text 4 0x2000 n))))
+unfolding range_of
+number_text_lem c n = by (eqb c 83) (eqb c 85) (eqb c 78) (eqb c 76) (eqb c 67) (eqb c 80) (eqb c 69) (eqb c 70) (eqb c 74)
+  where
+    by : (s u f l b p e d j : Bool)
+        → number_text (pick s (signed 0x8000) (pick u (unsigned 0x1_0000) (pick f (unsigned 32) (pick l (unsigned 64) (pick b (unsigned 4) (pick p (unsigned 1024) (pick e (unsigned 2) (pick d (frame 0x1000) (pick j (target 0x80_0000) (target 0x2000)))))))))) n
+        ≡ pick s (signed_text 1 0x8000 n) (pick (u || f || l || b || p || e) (decimal 8 n) (pick d (signed_text 8 0x1000 n) (pick j (signed_text 4 0x80_0000 n) (signed_text 4 0x2000 n))))
+    by true u f l b p e d j = refl
+    by false true f l b p e d j = refl
+    by false false true l b p e d j = refl
+    by false false false true b p e d j = refl
+    by false false false false true p e d j = refl
+    by false false false false false true e d j = refl
+    by false false false false false false true d j = refl
+    by false false false false false false false true j = refl
+    by false false false false false false false false true = refl
+    by false false false false false false false false false = refl
 
 -- an operand takes at most nine bytes
 pub signed_length : (unit h n : ℕ) → length (signed_text unit h n) ≤ 9

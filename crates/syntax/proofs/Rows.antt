@@ -114,6 +114,10 @@ pub right_at : (is : List Instr) (t : List ℕ) (n : ℕ) (d : Instr) → matche
 unfolding matches
 right_at is t n d e l = let b : (leb (length is * 28) (length t) ≡ true) × (matches_from 0 t is ≡ true) = and_parts _ _ e in rw zero-add at (rows_right is 0 t n d b.1 l)
 
+pub rows_length : (is : List Instr) (t : List ℕ) → matches t is ≡ true → length is * 28 ≤ length t
+unfolding matches
+rows_length is t e = leb-true (length is * 28) (length t) (and_parts (leb (length is * 28) (length t)) (matches_from 0 t is) e).0
+
 -- ---- the rows one after the other
 
 abbrev pub no_spot : ℕ → Spot

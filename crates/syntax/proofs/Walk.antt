@@ -64,6 +64,12 @@ byte_step : (s : List ℕ) (c i : ℕ) (b : Bool) → eqb (byte_at s i) c ≡ b 
 unfolding take_item
 byte_step s c i b e l = byte_list c i (drop i s) b (ap (λ (x : ℕ). eqb x c) (head_at s i) ∙ e) l ∙ ap (λ (x : ℕ). pick b (went x unfit) (stuck i)) (sym (add-one i))
 
+pub byte_took : (s : List ℕ) (c i : ℕ) → c < 256 → byte_at s i ≡ c → Ok (record { end = i + 1; value = unfit }) ≡ step_of (lit c) i (take_item (lit c) i (drop i s))
+byte_took s c i l e = sym (byte_step s c i true (eq-eqb _ _ e) l)
+
+pub byte_lacks : (s : List ℕ) (c i : ℕ) → c < 256 → (byte_at s i ≡ c → ⊥) → Err (record { column = i }) ≡ step_of (lit c) i (take_item (lit c) i (drop i s))
+byte_lacks s c i l e = sym (byte_step s c i false (ne_eqb _ _ e) l)
+
 -- registers
 number_list : (i : ℕ) (cs : List ℕ) → is_digit false (get_or cs 0 256) ≡ false → take_number i cs ≡ none i
 unfolding take_number
@@ -150,15 +156,18 @@ unfolding take_item
 zreg_step s i r n e = e ∙ (sym (same_step i (take_reg i (drop i s))) ∙ ap (step_of zreg i) (sym (zreg_else i (drop i s) (λ q. n (sym (head_at s i) ∙ q)))))
 
 -- the loop
-inside_took : (x : Item) (s : List ℕ) (i : ℕ) (o : Took) (g : Read Field) → i ≤ length s → ItemRead x i (drop i s) o → step_of x i o ≡ Ok g → g.end ≤ length s
+inside_took : (x : Item) (s : List ℕ) (i : ℕ) (o : Took) (g : Read Field) → i ≤ length s → ItemRead x i (drop i s) o → step_of x i o ≡ Ok g → (i ≤ g.end) × (g.end ≤ length s)
 inside_took x s i (took p j) g l t b =
     let q : j ≡ g.end = went_end j g (field_of x i p) b in
     let n : length (drop i s) ≡ length (text_of p) + length t.rest = ap length t.split ∙ length-append (text_of p) t.rest in
-    omega (arith, t.column, length-drop i s)
+    (omega (arith, t.column), omega (arith, t.column, length-drop i s))
 inside_took x s i (none k) g l t b = let z : ◌≡◌ {A = ℕ} 0 1 = cc in let y : ⊥ = omega arith in absurd y
 
+pub item_inside : (x : Item) (s : List ℕ) (i : ℕ) (g : Read Field) → i ≤ length s → Ok g ≡ step_of x i (take_item x i (drop i s)) → (i ≤ g.end) × (g.end ≤ length s)
+item_inside x s i g l e = inside_took x s i (take_item x i (drop i s)) g l (item_read x i (drop i s)) (sym e)
+
 pub operand_inside : (x : Item) (s : List ℕ) (i : ℕ) (g : Read Field) → i ≤ length s → Ok g ≡ step_of x i (take_item x i (drop i s)) → g.end ≤ length s
-operand_inside x s i g l e = inside_took x s i (take_item x i (drop i s)) g l (item_read x i (drop i s)) (sym e)
+operand_inside x s i g l e = (item_inside x s i g l e).1
 
 -- one part more in front of a line's other parts
 put_spot : (x : Item) (xs : List Item) (o : Operands) (i j : ℕ) (p : Part) → j ≡ i + length (text_of p) → (r : Result) → spot_with (x ∷ xs) o i (put p r) ≡ spot_with xs (push_on x o (field_of x i p)) j r

@@ -5,7 +5,7 @@ ghost use Rattle.syntax.specs.Inside.{range_in};
 ghost use Rattle.syntax.specs.declared.field.Misfit.{Misfit};
 
 use crate::slot::Number;
-use expr::{Off, Value};
+use expr::Off;
 
 // Why a field has no contents: the operand does not fit, or a value in it is outside -2^31 to 2^31 - 1.
 #[derive(Clone, Copy, PartialEq, Eq, Debug)]
@@ -86,11 +86,9 @@ fn frame_code(h: u64, v: i32) -> Field
     signed_code(h, v.div_euclid(8))
 }
 
-#[tactic(auto, using(crate::proofs::Codes::code_off))]
-pub fn number_code(number: Number, v: Value) -> Field
-    ensures { result ≡ code_of (range_in number) v }
+fn word_code(number: Number, v: i32) -> Field
+    ensures { result ≡ code_of (range_in number) (Ok v) }
 {
-    let v = v?;
     match number {
         Number::Signed => signed_code(0x8000, v),
         Number::Unsigned => unsigned_code(0x1_0000, v),
@@ -103,4 +101,25 @@ pub fn number_code(number: Number, v: Value) -> Field
         Number::Branch => target_code(0x80_0000, v),
         Number::Conditional => target_code(0x2000, v),
     }
+}
+
+// Of every number: one of more than 32 bits fits no field.
+#[tactic(auto, using(crate::proofs::Codes::code_below, crate::proofs::Codes::code_above))]
+fn wide_code(number: Number, v: i128) -> Field
+    ensures { result ≡ code_of (range_in number) (Ok v) }
+{
+    if v < -0x8000_0000 {
+        return Err(Misfit::Unfit);
+    }
+    if 0x8000_0000 <= v {
+        return Err(Misfit::Unfit);
+    }
+    word_code(number, v as i32)
+}
+
+#[tactic(auto, using(crate::proofs::Codes::code_off))]
+pub fn number_code(number: Number, v: Result<i128, Off>) -> Field
+    ensures { result ≡ code_of (range_in number) v }
+{
+    wide_code(number, v?)
 }

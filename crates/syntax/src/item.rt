@@ -1,10 +1,10 @@
 // One operand of a row read at a column of the line.
-ghost use Rattle.std.specs.Prelude.{◌≡◌, ◌≤◌, false, length, drop};
-ghost use Rattle.syntax.specs.Syntax.{reg, zreg, num};
+ghost use Rattle.std.specs.Prelude.{◌≡◌, ◌≤◌, length, drop};
+ghost use Rattle.syntax.specs.Syntax.{lit, reg, zreg, num};
 ghost use Rattle.syntax.specs.Take.{take_item};
-ghost use Rattle.syntax.specs.Inside.{range_in, item_in, is_byte, step_of};
+ghost use Rattle.syntax.specs.Inside.{range_in, item_in, step_of};
 
-use crate::field::{Field, below_limit, number_code};
+use crate::field::{Field, Misfit, below_limit, number_code};
 use crate::slot::{Number, Slot};
 use expr::{Read, Stuck, byte_at};
 
@@ -51,18 +51,33 @@ fn number(text: &[u8], at: usize, number: Number) -> Result<Read<Field>, Stuck>
     let Read { end, value } = expr::expression(text, at, 16)?;
     Ok(Read {
         end,
-        value: number_code(number, value),
+        value: number_code(number, value.map(i128::from)),
     })
 }
 
-// The operand that a slot stands for: a byte of the row is none.
-pub fn operand(text: &[u8], at: usize, slot: Slot) -> Result<Read<Field>, Stuck>
-    requires inside { at ≤ length text.now }
-    requires no_byte { is_byte slot ≡ false }
+// That byte, which has no field.
+#[tactic(auto, using(crate::proofs::Walk::byte_took, crate::proofs::Walk::byte_lacks, expr::proofs::Bytes::stands_is, expr::proofs::Bytes::stands_not))]
+fn byte(text: &[u8], at: usize, c: u8) -> Result<Read<Field>, Stuck>
+    requires { at ≤ length text.now }
+    ensures { result ≡ step_of (lit c) at (take_item (lit c) at (drop at text.now)) }
+{
+    if byte_at(text, at) == Some(c) {
+        Ok(Read {
+            end: at + 1,
+            value: Err(Misfit::Unfit),
+        })
+    } else {
+        Err(Stuck { column: at })
+    }
+}
+
+// What a slot of a row stands for.
+pub fn take(text: &[u8], at: usize, slot: Slot) -> Result<Read<Field>, Stuck>
+    requires { at ≤ length text.now }
     ensures { result ≡ step_of (item_in slot) at (take_item (item_in slot) at (drop at text.now)) }
 {
     match slot {
-        Slot::Byte(_) => unreachable!(),
+        Slot::Byte(c) => byte(text, at, c),
         Slot::Register => register(text, at),
         Slot::Base => register_or_zero(text, at),
         Slot::Number(n) => number(text, at, n),

@@ -4,7 +4,7 @@ ghost use Rattle.syntax.specs.Inside.{pattern_of, spot_of, no_operands, finish_o
 
 use crate::field::Field;
 use crate::five::Five;
-use crate::item::operand;
+use crate::item::take;
 use crate::slot::Slot;
 use expr::{Stuck, byte_at};
 
@@ -47,7 +47,7 @@ pub fn line(text: &[u8], row: &[u8]) -> Result<Operands, Stuck>
             Slot::Byte(b) if byte_at(text, at) == Some(b) => at += 1,
             Slot::Byte(_) => return Err(Stuck { column: at }),
             slot => {
-                let read = operand(text, at, slot)?;
+                let read = take(text, at, slot)?;
                 operands = operands.push(read.value);
                 at = read.end;
             }

@@ -6,6 +6,7 @@ pub mod ByBits
 pub mod Masks
 pub mod Rotations
 pub mod Doubles
+pub mod Order
 pub mod Sums
 pub mod Products
 pub mod Meanings

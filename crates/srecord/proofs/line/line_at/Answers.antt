@@ -5,7 +5,7 @@ use mathlib.Core.Path.{sym, ◌∙◌}
 use lib.ListN.{length}
 use borrow.Author.Rules.{rules}
 use Rattle.srecord.proofs.Formed.{formed_short, formed_headless, formed_endless, ends_outside, head_found, head_none}
-use Rattle.srecord.proofs.Judge.{found_none, address_none, sum_none, sum_small, end_none, check_off, found_whole}
+use Rattle.srecord.proofs.Judge.{found_none, sum_none, sum_small, end_none, check_off, found_whole}
 use Rattle.srecord.proofs.line.line_at.Goals as goal
 
 pub returns-then-left-lt4 : goal.returns-then-left-lt4
@@ -18,10 +18,6 @@ pub returns-then-left-head : goal.returns-then-left-head
 returns-then-left-head c = let d = head_found _ _ _ (sym c.head_at.ensures ∙ c.in_ok-head.was) in
     let l : length c.args.file.now ≤ c.args.at + 4 + 2 * c.in_ok-head.head.count = omega arith in
     sym (found_none _ _ (formed_endless _ _ (rw d.count (ends_outside _ _ l))))
-
-pub returns-in_err-address : goal.returns-in_err-address
-returns-in_err-address c = let d = head_found _ _ _ (sym c.head_at.ensures ∙ c.in_ok-head.was) in
-    rw (address_none _ _ _ d (sym c.number_at.ensures ∙ c.in_err-address.was)) (search rules)
 
 pub returns-in_err-sum : goal.returns-in_err-sum
 returns-in_err-sum c = let d = head_found _ _ _ (sym c.head_at.ensures ∙ c.in_ok-head.was) in
@@ -41,4 +37,4 @@ returns-then-head-sum-ne255 c = let d = head_found _ _ _ (sym c.head_at.ensures 
 
 pub returns : goal.returns
 returns c = let d = head_found _ _ _ (sym c.head_at.ensures ∙ c.in_ok-head.was) in
-    sym (found_whole _ _ _ d _ _ (sym c.sum_at.ensures ∙ c.in_ok-sum.was) (sym c.line_end.ensures ∙ c.in_ok-next.was) _ (sym c.number_at.ensures ∙ c.in_ok-address.was) c.if-head-sum-ne255.false)
+    sym (found_whole _ _ _ d _ _ (sym c.sum_at.ensures ∙ c.in_ok-sum.was) (sym c.line_end.ensures ∙ c.in_ok-next.was) _ c.number_at.ensures.0 c.if-head-sum-ne255.false)
