@@ -18,7 +18,7 @@ use everyday::symbols::Symbols;
 use serde_json::Value;
 use server::{Client, Server};
 use std::fs;
-use std::io::{Read, Write};
+use std::io::{ErrorKind, Read, Write};
 use std::net::Shutdown;
 use std::path::{Path, PathBuf};
 use std::thread::{self, JoinHandle};
@@ -217,13 +217,18 @@ fn sent(random: &mut Random, data: &[u8]) -> Vec<u8> {
     bytes
 }
 
-/// A client that is served: one that comes while the server is still busy with the last is turned away.
+/// A client that is served: one that comes while the server is still busy with the last is turned away, and its line is reset if its
+/// packet was not read by then.
 fn served(server: &Server) -> Client {
     for _ in 0..100 {
         let mut client = server.client();
-        client.send(&packed(b"qAttached"));
-        if client.answer().as_deref() == Some("1") {
-            return client;
+        let asked = client.stream.write_all(&packed(b"qAttached"));
+        match asked.and_then(|()| client.try_answer()) {
+            Ok(answer) if answer.as_deref() == Some("1") => return client,
+            Ok(_) => {}
+            Err(error) => {
+                assert!(matches!(error.kind(), ErrorKind::ConnectionReset | ErrorKind::BrokenPipe), "{error}")
+            }
         }
         thread::sleep(Duration::from_millis(50));
     }
@@ -303,6 +308,18 @@ fn one_client_at_a_time() {
     assert_eq!(first.ask("c"), "T05", "its breakpoint stops the core");
     drop(first);
     assert_eq!(served(&server).ask("c"), "T07", "which is gone with it, and the trap halts the core");
+}
+
+#[test]
+fn a_client_that_was_turned_away_is_served_when_it_comes_again() {
+    let server = Server::start(&folder("again", 1000), &["start.capture"]);
+    let first = served(&server);
+    let leaving = thread::spawn(move || {
+        thread::sleep(Duration::from_millis(900));
+        drop(first);
+    });
+    assert_eq!(served(&server).ask("m0,4"), "38630001");
+    leaving.join().expect("the first goes");
 }
 
 /// What listens has the loopback address, as /proc/net/tcp writes it.

@@ -168,6 +168,15 @@ module _ (f : List ℕ) (i : ℕ) where
     bytes_none : all_bytes (bytes_at h.count f (i + 4)) ≡ false → found_of f i ≡ None
     bytes_none e = found_none (formed_garbled i f (rw d.count e))
 
+    -- the address's bytes are the first of the line's
+    pub address_none : all_bytes (bytes_at h.width f (i + 4)) ≡ false → found_of f i ≡ None
+    address_none e =
+        decide (all_bytes (bytes_at h.count f (i + 4)))
+        (λ b.
+        let z : h.width + (h.count - h.width) ≡ h.count = omega (arith, d.room.fits, d.width, d.count) in
+        never (sym (front_part h.width (h.count - h.width) (i + 4) f (rw z b)) ∙ e))
+        bytes_none
+
     pub sum_none : sum_in (bytes_at h.count f (i + 4)) ≡ None → found_of f i ≡ None
     sum_none e = bytes_none (none_cases (all_bytes (bytes_at h.count f (i + 4))) _ e)
 

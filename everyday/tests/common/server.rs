@@ -2,7 +2,7 @@
 #![allow(dead_code)]
 
 use everyday::gdb::packet::{packed, Parser, Sent};
-use std::io::{BufRead, BufReader, Read, Write};
+use std::io::{self, BufRead, BufReader, Read, Write};
 use std::net::TcpStream;
 use std::path::Path;
 use std::process::{Child, ChildStdout, Command, ExitStatus, Stdio};
@@ -73,13 +73,18 @@ impl Client {
 
     /// The next answer; nothing once the server has closed the line.
     pub fn answer(&mut self) -> Option<String> {
+        self.try_answer().expect("the server answers in time")
+    }
+
+    /// The same, or what is wrong with the line.
+    pub fn try_answer(&mut self) -> io::Result<Option<String>> {
         let mut byte = [0];
-        while self.stream.read(&mut byte).expect("the server answers in time") == 1 {
+        while self.stream.read(&mut byte)? == 1 {
             if let Some(Sent::Packet(data)) = self.parser.take(byte[0]) {
-                return Some(String::from_utf8(data).expect("answers are text"));
+                return Ok(Some(String::from_utf8(data).expect("answers are text")));
             }
         }
-        None
+        Ok(None)
     }
 
     /// The answer to a packet; what goes to the console before it is passed over.
